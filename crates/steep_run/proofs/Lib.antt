@@ -1,0 +1,13 @@
+pub mod CallLemmas
+pub mod Composed
+pub mod KnownLemmas
+pub mod LexerLemmas
+pub mod NumberLemmas
+pub mod ParserLemmas
+pub mod PathLemmas
+pub mod ReadLemmas
+pub mod RubyLemmas
+pub mod TableLemmas
+pub mod TableSteps
+pub mod TestLemmas
+pub mod TextLemmas

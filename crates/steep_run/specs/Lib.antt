@@ -1,0 +1,6 @@
+pub mod Project
+pub mod Reading
+pub mod Report
+pub mod Ruby
+pub mod Signature
+pub mod Words

@@ -1,0 +1,158 @@
+ghost use Rattle.std.specs.Prelude.{◌≡◌, ◌⊎◌, ◌≤◌, ◌<◌, ◌^◌, ◌↔◌, IfSome, IfOk, map, string_bytes, length, codes, false, List};
+ghost use Rattle.diagnostics.specs.declared.diagnostic.Diagnostic.{Diagnostic};
+ghost use Rattle.steep_run.specs.declared.project.Project.{Project};
+ghost use Rattle.ports.specs.Causes.{Rose};
+ghost use Rattle.steep_run.specs.Project.{project_of};
+ghost use Rattle.steep_run.specs.Report.{Reports, HasFaults, IsSilent, is_check, HasCauses};
+ghost use Rattle.steep_run.specs.Reading.{ReadsSignature, IsChecked, Writes};
+
+use crate::outcome::{Outcome, Part};
+use crate::plan::{CheckPlan, is_check_alone};
+use crate::project::{Project, read_project};
+use crate::report::report_text;
+use crate::ruby::{LONGEST, faults};
+use crate::signature::{classes, tokens};
+use crate::table::{ClassTable, class_table};
+use crate::writing::write_all;
+use diagnostics::Diagnostic;
+use ports::{Gate, Sink, Source, Tree, TreeFault};
+use src_text::{Mem, Seq, Text};
+use std::alloc::Global;
+use std::sync::Wait;
+use std::thread::Threads;
+
+/// The program: what the words ask for, over the source, the sink and the tree that are handed in. Only `check` alone is built.
+pub fn run<R: Threads + Wait + Sync, S: Source, K: Sink + Send, T: Tree, G: Gate + Sync>(
+    rt: &R,
+    alloc: Global,
+    words: &[String],
+    source: &mut S,
+    sink: &mut K,
+    tree: &mut T,
+    _gate: &G,
+) -> Outcome
+    // Where the tree tells its files, a check writes the report of exactly these.
+    ensures report { IfSome (T.files tree.old) (λ files. Reports (project_of (codes ".") files) (K.held sink.old) (K.held sink.new) result) }
+    ensures words { result ≡ Outcome.Unbuilt Part.Words ↔ (is_check (map string_bytes words.now) ≡ false) }
+    ensures silent { IsSilent (K.held sink.old) (K.held sink.new) result }
+    ensures cause { HasCauses (T.faults tree.old) (T.faults tree.new) (K.faults sink.old) (K.faults sink.new) (K.stalls sink.old) (K.stalls sink.new) result }
+
+    // The files stay as they are, and nothing is taken of the source.
+    ensures tree { T.files tree.new ≡ T.files tree.old }
+    ensures source { S.left source.new ≡ S.left source.old }
+    ensures source_faults { S.faults source.new ≡ S.faults source.old }
+{
+    if !is_check_alone(words) {
+        return Outcome::Unbuilt(Part::Words);
+    }
+    let Ok(root) = Text::from_str(alloc, ".") else {
+        return Outcome::NoMemory;
+    };
+    let plan = CheckPlan { root, jobs: 1 };
+    run_check(rt, alloc, &plan, sink, tree)
+}
+
+/// Checks the project below the plan's root.
+pub fn run_check<R: Threads + Sync, K: Sink, T: Tree>(
+    _rt: &R,
+    alloc: Global,
+    plan: &CheckPlan,
+    sink: &mut K,
+    tree: &mut T,
+) -> Outcome
+    requires root { 0 < length plan.now.root }
+    requires jobs { (1 ≤ plan.now.jobs) × (plan.now.jobs ≤ 64) }
+    ensures report { IfSome (T.files tree.old) (λ files. Reports (project_of plan.now.root files) (K.held sink.old) (K.held sink.new) result) }
+    ensures words { ¬ (result ≡ Outcome.Unbuilt Part.Words) }
+    ensures silent { IsSilent (K.held sink.old) (K.held sink.new) result }
+    ensures cause { HasCauses (T.faults tree.old) (T.faults tree.new) (K.faults sink.old) (K.faults sink.new) (K.stalls sink.old) (K.stalls sink.new) result }
+    ensures tree { T.files tree.new ≡ T.files tree.old }
+{
+    match read_project(alloc, tree, plan.root.as_str()) {
+        Ok(project) => report_to(alloc, sink, &project),
+        Err(TreeFault::Failed) => Outcome::TreeFault,
+        Err(TreeFault::NoMemory) => Outcome::NoMemory,
+    }
+}
+
+/// A law, and no work: a project has one list of faults at most, so that its report is one text.
+pub fn has_one_list_of_faults()
+    ensures { (p : Project) (xs ys : List Diagnostic) → HasFaults p xs → HasFaults p ys → xs ≡ ys }
+{}
+
+// Checks a project, and writes its report.
+fn report_to<K: Sink>(alloc: Global, sink: &mut K, project: &Project) -> Outcome
+    ensures report { Reports project.now (K.held sink.old) (K.held sink.new) result }
+    ensures words { ¬ (result ≡ Outcome.Unbuilt Part.Words) }
+    ensures silent { IsSilent (K.held sink.old) (K.held sink.new) result }
+    ensures tree { ¬ (result ≡ Outcome.TreeFault) }
+    ensures cause { result ≡ Outcome.SinkFault → Rose (K.faults sink.old) (K.faults sink.new) ⊎ Rose (K.stalls sink.old) (K.stalls sink.new) }
+{
+    match checked(alloc, project) {
+        Ok(Verdict::NoSignature) => Outcome::Unbuilt(Part::Signature),
+        Ok(Verdict::NoRuby) => Outcome::Unbuilt(Part::Ruby),
+        Ok(Verdict::Faults(faults)) => {
+            write_report(alloc, sink, project.ruby.as_str(), faults.as_slice())
+        }
+        Err(_) => Outcome::NoMemory,
+    }
+}
+
+/// What the texts of a project are found to be.
+#[derive(Debug, Drop)]
+pub enum Verdict {
+    /// The signature isn't small.
+    NoSignature,
+    /// The signature is, and the Ruby text isn't.
+    NoRuby,
+    /// Both are, with these faults.
+    Faults(Seq<Diagnostic>),
+}
+
+fn checked(alloc: Global, project: &Project) -> Mem<Verdict>
+    ensures { IfOk result (IsChecked project.now) }
+{
+    let known = match known_classes(alloc, project.signature.as_str())? {
+        Some(known) => known,
+        None => return Ok(Verdict::NoSignature),
+    };
+    match faults(alloc, &known, project.ruby.as_str())? {
+        Some(faults) => Ok(Verdict::Faults(faults)),
+        None => Ok(Verdict::NoRuby),
+    }
+}
+
+// What a small signature declares.
+fn known_classes(alloc: Global, signature: &str) -> Mem<Option<ClassTable>>
+    ensures { IfOk result (ReadsSignature signature.now) }
+{
+    if signature.len() > LONGEST {
+        return Ok(None);
+    }
+    let tokens = match tokens(alloc, signature)? {
+        Some(tokens) => tokens,
+        None => return Ok(None),
+    };
+    let classes = match classes(alloc, tokens.as_slice())? {
+        Some(classes) => classes,
+        None => return Ok(None),
+    };
+    class_table(alloc, classes.as_slice())
+}
+
+fn write_report<K: Sink>(alloc: Global, sink: &mut K, ruby: &str, faults: &[Diagnostic]) -> Outcome
+    requires { length ruby.now < 2 ^ 32 }
+    ensures report { Writes ruby.now faults.now (K.held sink.old) (K.held sink.new) result }
+    ensures cause { result ≡ Outcome.SinkFault → Rose (K.faults sink.old) (K.faults sink.new) ⊎ Rose (K.stalls sink.old) (K.stalls sink.new) }
+{
+    let Ok(text) = report_text(alloc, ruby, faults) else {
+        return Outcome::NoMemory;
+    };
+    if write_all(sink, text.as_str().as_bytes()).is_err() {
+        return Outcome::SinkFault;
+    }
+    if faults.is_empty() {
+        return Outcome::Clean;
+    }
+    Outcome::Found(faults.len() as u64)
+}

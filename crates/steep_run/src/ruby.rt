@@ -1,0 +1,8 @@
+//! Small Ruby texts: lines that call a method on a new object of a class.
+
+mod call;
+mod line;
+mod numbers;
+mod text;
+
+pub use text::{LONGEST, faults};

@@ -1,0 +1,267 @@
+use super::*;
+use ports::{MemSink, MemTree, OpenGate, SureSource, is_file_map};
+use src_text::{Seq, Text};
+use std::alloc::Global;
+use std::sync::Wait;
+use std::test::Fail;
+use std::thread::Threads;
+
+const FOO: &str = "class Foo\n  def bar: (Integer x) -> String\nend\n";
+
+const CLEAN: &str = "No type error detected.\n";
+
+const MISSING: &str =
+    "lib/a.rb:1:8: [error] Type `::Foo` does not have method `baz` (Ruby::NoMethod)\nDetected 1 problem from 1 file.\n";
+
+fn file(alloc: Global, path: &str, bytes: &[u8]) -> Result<(Text, Seq<u8>), Fail> {
+    let bytes = Seq::from_slice(alloc, bytes)?;
+    Ok((Text::from_str(alloc, path)?, bytes))
+}
+
+// A tree of the files that aren't empty, whose listed calls fail.
+fn tree(
+    alloc: Global,
+    ruby: (&str, &[u8]),
+    signature: (&str, &[u8]),
+    failing: &[u64],
+) -> Result<MemTree, Fail> {
+    let mut files = Vec::new(alloc);
+    for (path, bytes) in [ruby, signature] {
+        if !bytes.is_empty() {
+            files.push(file(alloc, path, bytes)?)?;
+        }
+    }
+    if !is_file_map(files.as_slice()) {
+        return Err("no map of files".into());
+    }
+    let failing = Seq::from_slice(alloc, failing)?;
+    Ok(MemTree::new(Seq::from_vec(files), failing))
+}
+
+// What the words answer over a tree and a sink whose listed calls fail, and what they write.
+fn ran<R: Threads + Wait + Sync>(
+    rt: &R,
+    alloc: Global,
+    words: &[&str],
+    mut tree: MemTree,
+    failing: &[u64],
+) -> Result<(Outcome, String), Fail> {
+    let mut given = Vec::new(alloc);
+    for word in words {
+        given.push(String::from_str(alloc, *word)?)?;
+    }
+    let mut source = SureSource::new(Seq::new(alloc));
+    let failing = Seq::from_slice(alloc, failing)?;
+    let mut sink = MemSink::new(alloc, 4000, failing, Seq::new(alloc))?;
+    let outcome = run(
+        rt,
+        alloc,
+        &given,
+        &mut source,
+        &mut sink,
+        &mut tree,
+        &OpenGate,
+    );
+    Ok((outcome, String::from_utf8_lossy(alloc, sink.bytes())?))
+}
+
+#[test]
+fn texts_are_checked_and_reported(rt: HostRuntime) -> Result<(), Fail> {
+    let alloc = rt.alloc();
+    let unbuilt_signature = Outcome::Unbuilt(Part::Signature);
+    let unbuilt_ruby = Outcome::Unbuilt(Part::Ruby);
+    let rows = [
+        (b"".as_slice(), b"".as_slice(), Outcome::Clean, CLEAN),
+        (
+            FOO.as_bytes(),
+            b"Foo.new.baz(1)",
+            Outcome::Found(1),
+            MISSING,
+        ),
+        (
+            FOO.as_bytes(),
+            b"Foo.new.baz\r\n\r\n",
+            Outcome::Found(1),
+            MISSING,
+        ),
+        (FOO.as_bytes(), b"Foo.new.bar(1)", Outcome::Clean, CLEAN),
+        (
+            FOO.as_bytes(),
+            b"\nFoo.new.bar(123456789012345678)",
+            Outcome::Clean,
+            CLEAN,
+        ),
+        (
+            FOO.as_bytes(),
+            b"Foo.new.bar(1234567890123456789)",
+            unbuilt_ruby,
+            "",
+        ),
+        (FOO.as_bytes(), b"Foo.new.bar", unbuilt_ruby, ""),
+        (FOO.as_bytes(), b"Foo.new.bar()", unbuilt_ruby, ""),
+        (FOO.as_bytes(), b"Foo.new.bar(1, 2)", unbuilt_ruby, ""),
+        (FOO.as_bytes(), b"Foo.new.bar(\"a\")", unbuilt_ruby, ""),
+        (FOO.as_bytes(), b"Foo.new.class", unbuilt_ruby, ""),
+        (FOO.as_bytes(), b"Foo.new.?", unbuilt_ruby, ""),
+        (FOO.as_bytes(), b" Foo.new.baz", unbuilt_ruby, ""),
+        (FOO.as_bytes(), b"Bar.new.baz", unbuilt_ruby, ""),
+        (FOO.as_bytes(), b"Foo.new.b\xffz", unbuilt_ruby, ""),
+        (
+            FOO.as_bytes(),
+            b"Foo.new.baz?\rFoo.new.bar(1)\rFoo.new._b!(1, 22)",
+            Outcome::Found(2),
+            "lib/a.rb:1:8: [error] Type `::Foo` does not have method `baz?` (Ruby::NoMethod)\nlib/a.rb:3:8: [error] Type `::Foo` does not have method `_b!` (Ruby::NoMethod)\nDetected 2 problems from 1 file.\n",
+        ),
+        (
+            b"class Foo end # \xff\xc3\xa9",
+            b"Foo.new.baz",
+            Outcome::Found(1),
+            MISSING,
+        ),
+        (
+            b"%a{x} class Foo def baz: (Integer,Integer) -> B end",
+            b"Foo.new.baz(1, 2)",
+            Outcome::Clean,
+            CLEAN,
+        ),
+        (
+            b"class Foo def \xc3\xa9: ( Integer \xc3\xa9 , Integer ) -> B end",
+            b"Foo.new.baz",
+            Outcome::Found(1),
+            MISSING,
+        ),
+        (
+            b"class Foo def bar: () -> Integer? end",
+            b"",
+            unbuilt_signature,
+            "",
+        ),
+        (
+            b"class Foo def bar: (Integer,) -> B end",
+            b"",
+            unbuilt_signature,
+            "",
+        ),
+        (b"class Foo def bar:Integer end", b"", unbuilt_signature, ""),
+        (
+            b"class Foo def initialize: () -> B end",
+            b"",
+            unbuilt_signature,
+            "",
+        ),
+        (
+            b"class Foo def a: () -> B def a: () -> B end",
+            b"",
+            unbuilt_signature,
+            "",
+        ),
+        (b"class Foo end class Foo end", b"", unbuilt_signature, ""),
+        (b"class foo end", b"", unbuilt_signature, ""),
+        (b"class Foo", b"Bar", unbuilt_signature, ""),
+        (b"%a{x class Foo end", b"", unbuilt_signature, ""),
+    ];
+    for (signature, ruby, outcome, wanted) in rows {
+        let tree = tree(alloc, ("lib/a.rb", ruby), ("sig/a.rbs", signature), &[])?;
+        let (answer, written) = ran(&rt, alloc, &["check"], tree, &[])?;
+        assert_eq!(rt; answer, outcome, "{signature:?} {ruby:?}");
+        assert_eq!(rt; written.as_str(), wanted, "{signature:?} {ruby:?}");
+    }
+    Ok(())
+}
+
+#[test]
+fn words_and_faults_are_told(rt: HostRuntime) -> Result<(), Fail> {
+    let alloc = rt.alloc();
+    let words = Outcome::Unbuilt(Part::Words);
+    let rows = [
+        (
+            ["check"].as_slice(),
+            [].as_slice(),
+            [].as_slice(),
+            Outcome::Found(1),
+        ),
+        (
+            ["check"].as_slice(),
+            [2].as_slice(),
+            [].as_slice(),
+            Outcome::TreeFault,
+        ),
+        (
+            ["check"].as_slice(),
+            [].as_slice(),
+            [1].as_slice(),
+            Outcome::SinkFault,
+        ),
+        ([].as_slice(), [].as_slice(), [].as_slice(), words),
+        (
+            ["check", "check"].as_slice(),
+            [].as_slice(),
+            [].as_slice(),
+            words,
+        ),
+        (
+            ["langserver"].as_slice(),
+            [1].as_slice(),
+            [1].as_slice(),
+            words,
+        ),
+    ];
+    for (words, tree_fails, sink_fails, outcome) in rows {
+        let ruby = ("lib/a.rb", b"Foo.new.baz".as_slice());
+        let tree = tree(alloc, ruby, ("sig/a.rbs", FOO.as_bytes()), tree_fails)?;
+        let (answer, written) = ran(&rt, alloc, words, tree, sink_fails)?;
+        assert_eq!(rt; answer, outcome, "{words:?}");
+        assert_eq!(rt;
+            written.is_empty(),
+            outcome != Outcome::Found(1),
+            "{words:?}"
+        );
+    }
+    Ok(())
+}
+
+#[test]
+fn a_root_stands_before_the_paths(rt: HostRuntime) -> Result<(), Fail> {
+    let alloc = rt.alloc();
+    for root in ["work", "work/", "work//"] {
+        let ruby = ("work/lib/a.rb", b"Foo.new.baz".as_slice());
+        let mut tree = tree(alloc, ruby, ("work/sig/a.rbs", FOO.as_bytes()), &[])?;
+        let mut sink = MemSink::new(alloc, 4000, Seq::new(alloc), Seq::new(alloc))?;
+        let root = Text::from_str(alloc, root)?;
+        if root.as_str().is_empty() {
+            return Err("an empty root".into());
+        }
+        let plan = CheckPlan { root, jobs: 1 };
+        assert_eq!(rt;
+            run_check(&rt, alloc, &plan, &mut sink, &mut tree),
+            Outcome::Found(1)
+        );
+        assert_eq!(rt; sink.bytes(), MISSING.as_bytes());
+    }
+    Ok(())
+}
+
+#[test]
+fn outcomes_have_statuses_and_lines(rt: HostRuntime) -> Result<(), Fail> {
+    let rows = [
+        (Outcome::Clean, 0, None),
+        (Outcome::Found(3), 1, None),
+        (
+            Outcome::TreeFault,
+            4,
+            Some("steep: cannot read the project"),
+        ),
+        (Outcome::SinkFault, 6, Some("steep: cannot write output")),
+        (Outcome::NoMemory, 8, Some("steep: out of memory")),
+        (
+            Outcome::Unbuilt(Part::Ruby),
+            10,
+            Some("steep: not built yet"),
+        ),
+    ];
+    for (outcome, status, line) in rows {
+        assert_eq!(rt; outcome.status(), status, "{outcome:?}");
+        assert!(rt; outcome.line() == line, "{outcome:?}");
+    }
+    Ok(())
+}

@@ -1,0 +1,4 @@
+Greeter.new.hello(3)
+Greeter.new.wave
+
+Greeter.new.bye
