@@ -1,0 +1,14 @@
+pub mod Skipping
+pub mod Fronts
+pub mod Integers
+pub mod Keywords
+pub mod Annotated
+pub mod Cutting
+pub mod Finding
+pub mod Longer
+pub mod Marked
+pub mod Quoted
+pub mod Tables
+pub mod Values
+pub mod WordLen
+pub mod WordsFound

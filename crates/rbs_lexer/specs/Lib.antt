@@ -1,0 +1,11 @@
+pub mod Bytes
+pub mod Words
+pub mod Numbers
+pub mod Quotes
+pub mod Signs
+pub mod Gaps
+pub mod Places
+pub mod Runs
+pub mod Lexing
+pub mod Answers
+pub mod Finds

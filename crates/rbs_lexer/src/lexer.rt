@@ -1,0 +1,92 @@
+ghost use Rattle.std.specs.Prelude.{◌≡◌, ◌+◌, ◌<◌, ◌≤◌, ◌^◌, List, length, slice_index, chars, IfOk};
+ghost use Rattle.std.specs.Char.{len_utf8};
+ghost use Rattle.src_text.specs.declared.span.Span.{Span};
+ghost use Rattle.rbs_lexer.specs.declared.token.Token.{Token};
+ghost use Rattle.rbs_lexer.specs.Lexing.{AreTokens, IsBad};
+ghost use Rattle.rbs_lexer.specs.Answers.{Answers, IsTokens, IsBadAt};
+
+use crate::front::front;
+use crate::kind::Kind;
+use crate::reading::Reading;
+use crate::token::{BadToken, Token};
+use crate::walk::{Walk, begin, past_gap, past_token};
+use src_text::{Mem, Seq, Span, Text};
+use std::alloc::Global;
+
+/// The tokens of a text: at each place the longest. Whether the name of a method may stand at a place is told by the tokens
+/// before it alone, and of two readings of one length a name's comes first.
+///
+/// Blanks, comments from `#` to the line's end, and annotations (`%a` and what stands in brackets directly behind it) are
+/// skipped. Where neither they nor a token begins, the text has no tokens, and the character that begins there is answered. An
+/// integer past 128 bits with a sign, a text that isn't closed by its quote, and an annotation that isn't closed are no tokens
+/// at their first character.
+pub fn tokens(alloc: Global, text: &str) -> Result<Seq<Token>, BadToken>
+    requires { length text.now < 2 ^ 32 }
+    // What is answered is so.
+    ensures answers { Answers text.now result }
+    // The text has no other tokens, and none where a span is answered.
+    ensures tokens { (these : List Token) → AreTokens text.now these → IsTokens result these }
+    // It has no other such place, and none where tokens are answered.
+    ensures bad { (this : Span) → IsBad text.now this → IsBadAt result this }
+{
+    let mut found = Seq::new(alloc);
+    let mut walk = begin();
+    while walk.at < text.len() {
+        let rest = &text[walk.at..];
+        let Some(next) = front(walk.place, rest) else {
+            return Err(BadToken::At(first_span(walk.at, rest)));
+        };
+        let run = &rest[..next.len];
+        match next.reading {
+            Reading::Token(kind) => {
+                let met = token(alloc, walk, kind, run)?;
+                found.push(met)?;
+                walk = past_token(walk, kind, run);
+            }
+            Reading::Skipped => walk = past_gap(walk, run),
+            Reading::Refused => return Err(BadToken::At(first_span(walk.at, rest))),
+        }
+    }
+    Ok(found)
+}
+
+// The token of a run at which a walk stands.
+fn token(alloc: Global, walk: Walk, kind: Kind, run: &str) -> Mem<Token>
+    requires { walk.at + length run.now < 2 ^ 32 }
+    ensures { IfOk result (λ t. t ≡ record { kind = kind; text = run.now; at = record { start = walk.at; end = walk.at + length run.now }; begins_line = walk.line_ended }) }
+{
+    Ok(Token {
+        kind,
+        text: Text::from_str(alloc, run)?,
+        at: Span {
+            start: walk.at as u32,
+            end: (walk.at + run.len()) as u32,
+        },
+        begins_line: walk.line_ended,
+    })
+}
+
+// The span of the first character of what stands behind some bytes.
+fn first_span(at: usize, rest: &str) -> Span
+    requires some { 0 < length rest.now }
+    requires fits { at + length rest.now < 2 ^ 32 }
+    ensures start { result.start ≡ at }
+    ensures end { result.end ≡ at + len_utf8 (slice_index (chars rest.now) 0) }
+{
+    Span {
+        start: at as u32,
+        end: (at + first_len(rest)) as u32,
+    }
+}
+
+// How many bytes the first character takes.
+fn first_len(text: &str) -> usize
+    requires { 0 < length text.now }
+    ensures value { result ≡ len_utf8 (slice_index (chars text.now) 0) }
+    ensures within { result ≤ length text.now }
+{
+    match text.chars().next() {
+        Some(first) => first.len_utf8(),
+        None => unreachable!(),
+    }
+}

@@ -1,0 +1,26 @@
+//! The tokens of RBS signatures.
+//!
+//! [`tokens`] cuts a text into the longest tokens, by the lexical rules of RBS's `docs/syntax.md` in this project's profile. It
+//! promises that its tokens are the only ones of the text, and that it names the first place where none begins. Nothing here
+//! knows the grammar above the tokens: whether a name of a method may stand at a place is told by the tokens before it.
+#![tactic(auto)]
+
+mod front;
+mod gaps;
+mod kind;
+mod lexer;
+mod numbers;
+mod place;
+mod quotes;
+mod reading;
+mod signs;
+mod token;
+mod walk;
+mod words;
+
+pub use kind::Kind;
+pub use lexer::tokens;
+pub use token::{BadToken, Token};
+
+#[cfg(test)]
+mod tests;

@@ -1,0 +1,83 @@
+ghost use Rattle.std.specs.Prelude.{◌≡◌, map};
+ghost use Rattle.rbs_lexer.specs.Finds as spec;
+
+use crate::kind::Kind;
+use crate::reading::{Found, longer, longer_len, of_kind};
+
+const SIGNS: [(&str, Kind); 20] = [
+    ("(", Kind::LeftParen),
+    (")", Kind::RightParen),
+    ("[", Kind::LeftBracket),
+    ("]", Kind::RightBracket),
+    ("{", Kind::LeftBrace),
+    ("}", Kind::RightBrace),
+    (",", Kind::Comma),
+    (":", Kind::Colon),
+    ("::", Kind::ColonColon),
+    (".", Kind::Dot),
+    ("|", Kind::Bar),
+    ("&", Kind::Ampersand),
+    ("?", Kind::Question),
+    ("*", Kind::Star),
+    ("**", Kind::StarStar),
+    ("^", Kind::Caret),
+    ("->", Kind::Arrow),
+    ("=", Kind::Equals),
+    ("<", Kind::Less),
+    ("...", Kind::Ellipsis),
+];
+
+const OPERATORS: [&str; 27] = [
+    "+", "-", "*", "/", "%", "**", "==", "!=", "===", "=~", "!~", "<=>", "<", "<=", ">", ">=",
+    "<<", ">>", "&", "|", "^", "~", "!", "[]", "[]=", "+@", "-@",
+];
+
+/// The sign at the front.
+#[tactic(auto, unfolding(crate::specs::Finds::sign_front))]
+pub fn sign(text: &[u8]) -> Option<Found>
+    ensures { result ≡ spec.sign_front text.now }
+{
+    longest_sign(&SIGNS, text)
+}
+
+/// How long the operator at the front is.
+#[tactic(auto, unfolding(crate::specs::Finds::operator_len))]
+pub fn operator_len(text: &[u8]) -> Option<usize>
+    ensures { result ≡ spec.operator_len text.now }
+{
+    longest(&OPERATORS, text)
+}
+
+// The longest of these signs with which the text begins.
+#[tactic(auto, using(crate::proofs::Longer::longer_assoc))]
+fn longest_sign(table: &[(&str, Kind)], text: &[u8]) -> Option<Found>
+    ensures { result ≡ spec.longest_sign (map (λ e. (e.0.now, e.1)) table.now) text.now }
+{
+    let mut found = None;
+    for (sign, kind) in table {
+        found = longer(found, of_kind(*kind, prefix_len(sign, text)));
+    }
+    found
+}
+
+// How long the longest of these is with which the text begins.
+#[tactic(auto, using(crate::proofs::Longer::longer_len_assoc))]
+fn longest(table: &[&str], text: &[u8]) -> Option<usize>
+    ensures { result ≡ spec.longest_of (map (λ e. e.now) table.now) text.now }
+{
+    let mut found = None;
+    for prefix in table {
+        found = longer_len(found, prefix_len(prefix, text));
+    }
+    found
+}
+
+fn prefix_len(prefix: &str, text: &[u8]) -> Option<usize>
+    ensures { result ≡ spec.prefix_len prefix.now text.now }
+{
+    if text.starts_with(prefix.as_bytes()) {
+        Some(prefix.len())
+    } else {
+        None
+    }
+}
