@@ -42,3 +42,6 @@ fn told(rt: &impl Eprint, outcome: Outcome) -> io::Result<ExitCode> {
     }
     Ok(ExitCode::from(outcome.status()))
 }
+
+#[cfg(test)]
+mod tests;

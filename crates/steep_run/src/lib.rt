@@ -18,6 +18,3 @@ mod writing;
 pub use check::{has_one_list_of_faults, run, run_check};
 pub use outcome::{Outcome, Part};
 pub use plan::CheckPlan;
-
-#[cfg(test)]
-mod tests;

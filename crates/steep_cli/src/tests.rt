@@ -1,10 +1,12 @@
-use super::*;
+//! Checks of whole projects in memory, through the calls that the program makes.
+
 use ports::{MemSink, MemTree, OpenGate, SureSource, is_file_map};
 use src_text::{Seq, Text};
 use std::alloc::Global;
 use std::sync::Wait;
 use std::test::Fail;
 use std::thread::Threads;
+use steep_run::{CheckPlan, Outcome, Part, run, run_check};
 
 const FOO: &str = "class Foo\n  def bar: (Integer x) -> String\nend\n";
 
