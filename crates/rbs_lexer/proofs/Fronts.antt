@@ -5,20 +5,21 @@ use Rattle.std.specs.Str.{IsUtf8, IsCharBoundary}
 use Rattle.std.proofs.lemmas.Str.{IsCharBoundary-after_ascii}
 use Rattle.rbs_lexer.specs.declared.kind.Kind.TheVariants as k
 use Rattle.rbs_lexer.specs.declared.place.Place.{Place}
+use Rattle.rbs_lexer.specs.declared.reading.Found.{Found}
 use Rattle.rbs_lexer.specs.Bytes.{begins_with_digit}
 use Rattle.rbs_lexer.specs.Words.{is_word, is_marked}
 use Rattle.rbs_lexer.specs.Quotes.{is_string, is_backquoted}
 use Rattle.rbs_lexer.specs.Signs.{is_operator}
 use Rattle.rbs_lexer.specs.Gaps.{is_gap, annotation}
 use Rattle.rbs_lexer.specs.Places.{has_name, takes_equals}
-use Rattle.rbs_lexer.specs.Runs.{Language, either, of_kind, behind, gap, string, symbol, sign, word, integer, is_symbol, variable, ordinary, is_method_name, name, reading}
-use Rattle.rbs_lexer.specs.Finds.{longer_by, longer_len, longer, found_of, gap_len, string_len, backquoted_len, operator_len, any_word_len, marked_len, numeric_len, word_behind, word_behind_two, variable_front, symbol_name_len, symbol_len, ordinary_front, method_name_len, takes_it, front_at}
+use Rattle.rbs_lexer.specs.Runs.{Language, either, of_kind, behind, gap, string, symbol, sign, special, word, integer, is_symbol, variable, ordinary, is_method_name, name, reading}
+use Rattle.rbs_lexer.specs.Finds.{longer_by, longer_len, longer, found_of, gap_len, string_len, backquoted_len, operator_len, any_word_len, marked_len, numeric_len, word_behind, word_behind_two, variable_front, symbol_name_len, symbol_len, special_front, ordinary_front, method_name_len, takes_it, front_at}
 use Rattle.rbs_lexer.proofs.Finding.{Test, Finds, FindsReading, finds_or, finds_after, none_after, none_in_empty, tail_utf8, reads_either, reads_of_kind, reads_skipped, and_left, and_is, is_byte}
 use Rattle.rbs_lexer.proofs.Quoted.{string_found, backquoted_found}
 use Rattle.rbs_lexer.proofs.Skipping.{gap_found}
 use Rattle.rbs_lexer.proofs.Annotated.{annotation_found}
 use Rattle.rbs_lexer.proofs.Integers.{number_found}
-use Rattle.rbs_lexer.proofs.Tables.{operator_found, sign_found}
+use Rattle.rbs_lexer.proofs.Tables.{operator_found, sign_found, special_found}
 use Rattle.rbs_lexer.proofs.WordsFound.{any_word_found, numeric_found, word_found}
 use Rattle.rbs_lexer.proofs.Marked.{marked_found}
 
@@ -119,7 +120,11 @@ pub front_found : (place : Place) (text : List ℕ) → IsUtf8 text → FindsRea
 unfolding reading front_at
 front_found place text u = go (has_name place)
   where
-    go : (t : Bool) → FindsReading (if t then either (name place) ordinary else ordinary) text
-        (if t then longer (found_of k.MethodName (method_name_len (takes_it place text) text)) (ordinary_front text) else ordinary_front text)
-    go true = reads_either (name place) ordinary text (found_of k.MethodName (method_name_len (takes_it place text) text)) (ordinary_front text) (name_found place text u) (ordinary_found text u)
+    named : Option Found
+    named = found_of k.MethodName (method_name_len (takes_it place text) text)
+
+    go : (t : Bool) → FindsReading (if t then either special (either (name place) ordinary) else ordinary) text
+        (if t then longer (special_front text) (longer named (ordinary_front text)) else ordinary_front text)
+    go true = reads_either special (either (name place) ordinary) text (special_front text) (longer named (ordinary_front text)) (special_found text u)
+        (reads_either (name place) ordinary text named (ordinary_front text) (name_found place text u) (ordinary_found text u))
     go false = ordinary_found text u

@@ -9,9 +9,9 @@ use Rattle.std.proofs.lemmas.List.{length-take}
 use Rattle.rbs_lexer.specs.declared.kind.Kind.{Kind}
 use Rattle.rbs_lexer.specs.declared.reading.Reading.TheVariants.{Token}
 use Rattle.rbs_lexer.specs.Words.{entry}
-use Rattle.rbs_lexer.specs.Signs.{signs, operators, sign_kind, is_operator}
+use Rattle.rbs_lexer.specs.Signs.{signs, special_names, operators, sign_kind, special_kind, is_operator}
 use Rattle.rbs_lexer.specs.Runs.{Language, either, of_kind, or_else}
-use Rattle.rbs_lexer.specs.Finds.{prefix_len, longest_of, longest_sign, found_of, operator_len, sign_front}
+use Rattle.rbs_lexer.specs.Finds.{prefix_len, longest_of, longest_sign, found_of, operator_len, sign_front, special_front}
 use Rattle.rbs_lexer.proofs.Finding.{Finds, FindsReading, finds_or, reads_either, reads_same, reads_of_kind}
 use Rattle.rbs_lexer.proofs.Skipping.{all_ascii, ascii_cut, both}
 
@@ -101,3 +101,7 @@ longest_sign_found (e ∷ es) text p u =
 pub sign_found : (text : List ℕ) → IsUtf8 text → FindsReading (λ run next. option_map Token (sign_kind run)) text (sign_front text)
 unfolding sign_kind sign_front plain_signs
 sign_found text u = longest_sign_found signs text refl u
+
+pub special_found : (text : List ℕ) → IsUtf8 text → FindsReading (λ run next. option_map Token (special_kind run)) text (special_front text)
+unfolding special_kind special_front plain_signs
+special_found text u = longest_sign_found special_names text refl u

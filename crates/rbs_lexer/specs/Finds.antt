@@ -12,7 +12,7 @@ use Rattle.rbs_lexer.specs.Words.{is_word_character, is_mark, word_kind}
 use Rattle.rbs_lexer.specs.Numbers.{goes_on, value_from}
 use Rattle.rbs_lexer.specs.Gaps.{closing}
 use Rattle.rbs_lexer.specs.Places.{has_name, takes_equals}
-use Rattle.rbs_lexer.specs.Signs.{signs, operators}
+use Rattle.rbs_lexer.specs.Signs.{signs, special_names, operators}
 
 -- a length that is more by some bytes
 abbrev pub longer_by : ℕ → Option ℕ → Option ℕ
@@ -133,6 +133,10 @@ operator_len text = longest_of operators text
 unfoldable pub sign_front : List ℕ → Option Found
 sign_front text = longest_sign signs text
 
+-- the name at the front that is a token of its own
+unfoldable pub special_front : List ℕ → Option Found
+special_front text = longest_sign special_names text
+
 -- the reading of digits, by the greatest number that is let pass
 abbrev pub fitting : ℕ → List ℕ → Reading
 fitting limit digits = if nat_le (value_from 0 digits) limit then Token k.Integer else Refused
@@ -211,4 +215,4 @@ takes_it place text = takes_equals place (drop (word_len text + 1) text)
 
 -- the longest run at the front at a place
 unfoldable pub front_at : Place → List ℕ → Option Found
-front_at place text = if has_name place then longer (found_of k.MethodName (method_name_len (takes_it place text) text)) (ordinary_front text) else ordinary_front text
+front_at place text = if has_name place then longer (special_front text) (longer (found_of k.MethodName (method_name_len (takes_it place text) text)) (ordinary_front text)) else ordinary_front text

@@ -6,7 +6,7 @@ use Rattle.rbs_lexer.specs.declared.place.Place.{Place}
 use Rattle.rbs_lexer.specs.declared.place.Place.TheVariants as at
 use Rattle.rbs_lexer.specs.Bytes.{begins_with}
 
--- whether a token of this kind is a name where one may stand: words, and what only a name can be
+-- whether a token of this kind is a name where one may stand: words, what only a name can be, and the operators `|` and `&`
 abbrev pub is_name : Kind → Bool
 is_name k.LeftParen = false
 is_name k.RightParen = false
@@ -18,8 +18,6 @@ is_name k.Comma = false
 is_name k.Colon = false
 is_name k.ColonColon = false
 is_name k.Dot = false
-is_name k.Bar = false
-is_name k.Ampersand = false
 is_name k.Question = false
 is_name k.Star = false
 is_name k.StarStar = false

@@ -10,7 +10,7 @@ use Rattle.rbs_lexer.specs.Bytes.{begins_with_digit}
 use Rattle.rbs_lexer.specs.Words.{is_word, is_marked, word_kind}
 use Rattle.rbs_lexer.specs.Numbers.{is_digits, value_from}
 use Rattle.rbs_lexer.specs.Quotes.{is_string, is_backquoted}
-use Rattle.rbs_lexer.specs.Signs.{sign_kind, is_operator}
+use Rattle.rbs_lexer.specs.Signs.{sign_kind, special_kind, is_operator}
 use Rattle.rbs_lexer.specs.Gaps.{is_gap, annotation}
 use Rattle.rbs_lexer.specs.Places.{has_name, takes_equals}
 
@@ -74,6 +74,10 @@ symbol run next = of_kind k.Symbol (is_symbol run)
 abbrev pub sign : Language
 sign run next = option_map Token (sign_kind run)
 
+-- a name that is a token of its own
+abbrev pub special : Language
+special run next = option_map Token (special_kind run)
+
 -- what can stand anywhere
 unfoldable pub ordinary : Language
 ordinary = either gap (either annotation (either word (either integer (either string (either symbol (either variable sign))))))
@@ -88,4 +92,4 @@ name place run next = of_kind k.MethodName (is_method_name (takes_equals place n
 
 -- what can stand at a place: where a name may stand, its reading comes first
 unfoldable pub reading : Place → Language
-reading place = if has_name place then either (name place) ordinary else ordinary
+reading place = if has_name place then either special (either (name place) ordinary) else ordinary

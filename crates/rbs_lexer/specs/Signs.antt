@@ -18,9 +18,17 @@ operators = codes "+" ∷ codes "-" ∷ codes "*" ∷ codes "/" ∷ codes "%" �
     ∷ codes "<=>" ∷ codes "<" ∷ codes "<=" ∷ codes ">" ∷ codes ">=" ∷ codes "<<" ∷ codes ">>" ∷ codes "&" ∷ codes "|" ∷ codes "^" ∷ codes "~"
     ∷ codes "!" ∷ codes "[]" ∷ codes "[]=" ∷ codes "+@" ∷ codes "-@" ∷ []
 
+-- what is a token of its own where a name may stand: the operators that are signs too, and `self?`
+abbrev pub special_names : List (List ℕ × Kind)
+special_names = (codes "|", k.Bar) ∷ (codes "&", k.Ampersand) ∷ (codes "self?", k.SelfQuestion) ∷ []
+
 -- the kind of a sign
 unfoldable pub sign_kind : List ℕ → Option Kind
 sign_kind run = entry run signs
+
+-- the kind of such a name
+unfoldable pub special_kind : List ℕ → Option Kind
+special_kind run = entry run special_names
 
 -- an operator
 unfoldable pub is_operator : List ℕ → Bool

@@ -7,7 +7,7 @@ use crate::numbers::{begins_with_digit, number};
 use crate::place::{Place, has_name, takes_equals};
 use crate::quotes::{backquoted_len, string_len};
 use crate::reading::{Found, longer, longer_len, of_kind, skipped};
-use crate::signs::{operator_len, sign};
+use crate::signs::{operator_len, sign, special_name};
 use crate::words::{any_word_len, marked_len, word, word_len};
 
 /// The longest run at the front of a text at a place.
@@ -17,10 +17,11 @@ pub fn front(place: Place, text: &str) -> Option<Found>
 {
     let found = ordinary(text);
     if has_name(place) {
-        longer(
+        let found = longer(
             of_kind(Kind::MethodName, method_name_len(place, text)),
             found,
-        )
+        );
+        longer(special_name(text.as_bytes()), found)
     } else {
         found
     }

@@ -12,7 +12,9 @@ pub enum Kind {
     Colon,
     ColonColon,
     Dot,
+    /// `|`, which may also be the name of a method.
     Bar,
+    /// `&`, which may also be the name of a method.
     Ampersand,
     Question,
     Star,
@@ -73,6 +75,8 @@ pub enum Kind {
     String,
     /// `:` and a name, an operator or a string.
     Symbol,
+    /// `self?` where the name of a method may stand.
+    SelfQuestion,
     /// What only the name of a method can be: an operator, a word with `?`, `!` or `=`, a word that begins with a digit, or a
     /// text between backquotes, with them.
     MethodName,

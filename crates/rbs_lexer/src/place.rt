@@ -105,7 +105,7 @@ fn behind_word(kind: Kind) -> Place
     }
 }
 
-// Whether a token of this kind is a name where one may stand: a word, or what only a name can be.
+// Whether a token of this kind is a name where one may stand: a word, what only a name can be, `|` or `&`.
 fn is_name(kind: Kind) -> bool
     ensures { result ≡ places.is_name kind }
 {
@@ -120,8 +120,6 @@ fn is_name(kind: Kind) -> bool
         | Kind::Colon
         | Kind::ColonColon
         | Kind::Dot
-        | Kind::Bar
-        | Kind::Ampersand
         | Kind::Question
         | Kind::Star
         | Kind::StarStar

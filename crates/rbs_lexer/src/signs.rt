@@ -27,6 +27,13 @@ const SIGNS: [(&str, Kind); 20] = [
     ("...", Kind::Ellipsis),
 ];
 
+// Names of methods that are tokens of their own where a name may stand.
+const SPECIAL_NAMES: [(&str, Kind); 3] = [
+    ("|", Kind::Bar),
+    ("&", Kind::Ampersand),
+    ("self?", Kind::SelfQuestion),
+];
+
 const OPERATORS: [&str; 27] = [
     "+", "-", "*", "/", "%", "**", "==", "!=", "===", "=~", "!~", "<=>", "<", "<=", ">", ">=",
     "<<", ">>", "&", "|", "^", "~", "!", "[]", "[]=", "+@", "-@",
@@ -38,6 +45,14 @@ pub fn sign(text: &[u8]) -> Option<Found>
     ensures { result ≡ spec.sign_front text.now }
 {
     longest_sign(&SIGNS, text)
+}
+
+/// The name at the front that is a token of its own.
+#[tactic(auto, unfolding(crate::specs::Finds::special_front))]
+pub fn special_name(text: &[u8]) -> Option<Found>
+    ensures { result ≡ spec.special_front text.now }
+{
+    longest_sign(&SPECIAL_NAMES, text)
 }
 
 /// How long the operator at the front is.

@@ -138,11 +138,11 @@ const NAMES: [(&str, &str); 14] = [
     ),
     (
         "def self?.`x y`:",
-        "Def def, MethodName self?, Dot ., MethodName `x y`, Colon :",
+        "Def def, SelfQuestion self?, Dot ., MethodName `x y`, Colon :",
     ),
     (
         "def |: A | B",
-        "Def def, MethodName |, Colon :, Constant A, Bar |, Constant B",
+        "Def def, Bar |, Colon :, Constant A, Bar |, Constant B",
     ),
     ("def 9: 9", "Def def, MethodName 9, Colon :, Integer 9"),
     (
