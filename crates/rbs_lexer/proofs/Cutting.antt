@@ -14,7 +14,7 @@ use Rattle.rbs_lexer.specs.declared.reading.Reading.TheVariants as is
 use Rattle.rbs_lexer.specs.declared.reading.Found.{Found}
 use Rattle.rbs_lexer.specs.Runs.{reading}
 use Rattle.rbs_lexer.specs.Finds.{front_at}
-use Rattle.rbs_lexer.specs.Lexing.{Longest, NoneReads, NoToken, Piece, token, gap, bytes_of, reading_of, start, past, past_all, IsFront, IsCut, tokens_of, AreTokens, IsBad}
+use Rattle.rbs_lexer.specs.Lexing.{Longest, NoneReads, NoToken, Piece, token, gap, bytes_of, reading_of, start, past, past_all, IsFront, IsCut, tokens_of, AreTokens, IsBad, IsCutShort, IsLexed, span_of_first}
 use Rattle.rbs_lexer.proofs.Finding.{FindsReading, LongestReading}
 use Rattle.rbs_lexer.proofs.Fronts.{front_found}
 
@@ -195,6 +195,10 @@ module _ (text : List ℕ) (walk : Walk) (tokens : List Token) (w : Walked text 
     pub no_tokens : (these : List Token) → AreTokens text these → ⊥
     no_tokens these t = not_empty (drop walk.at text) (one_cut w.pieces t.0 start text (drop walk.at text) [] w.cut t.1 none_here (none_at_end (past_all start t.0).place)).1 some_left
 
+    pub cut_short : IsCutShort text tokens (span_of_first walk.at (drop walk.at text))
+    unfolding is_bad
+    cut_short = (is_bad (span_of_first walk.at (drop walk.at text)) refl refl, w.met)
+
 same_span : (a b : Span) → a.start ≡ b.start → a.end ≡ b.end → a ≡ b
 same_span a b s e = λ i. record { start = s i; end = e i }
 
@@ -203,6 +207,62 @@ one_bad text a b x y =
     let same = one_cut x.pieces y.pieces start text x.rest y.rest x.cut y.cut x.no_token y.no_token in
     let s : a.start ≡ b.start = x.starts ∙ ap (λ ps. (past_all start ps).at) same.0 ∙ sym y.starts in
     same_span a b s (x.ends ∙ ap (λ n. n + len_utf8 (slice_index (chars x.rest) 0)) s ∙ ap (λ l. b.start + len_utf8 (slice_index (chars l) 0)) same.1 ∙ sym y.ends)
+
+pub one_before : (text : List ℕ) (a b : Span) (tokens these : List Token) → IsCutShort text tokens a → IsCutShort text these b → tokens ≡ these
+one_before text a b tokens these x y =
+    x.1 ∙ ap (tokens_of start) (one_cut x.0.pieces y.0.pieces start text x.0.rest y.0.rest x.0.cut y.0.cut x.0.no_token y.0.no_token).0 ∙ sym y.1
+
+some_one : (a b : Span) → a ≡ b → Some a ≡ Some b
+some_one a b e = ap Some e
+
+-- At the text's end nothing else is lexed.
+pub one_lexed : (text : List ℕ) (walk : Walk) (tokens : List Token) → Walked text walk tokens → length text ≤ walk.at
+    → (these : List Token) (bad : Option Span) → IsLexed text these bad → (tokens ≡ these) × (None ≡ bad)
+one_lexed text walk tokens w h these None l = (same_tokens text walk tokens w h these l, refl)
+one_lexed text walk tokens w h these (Some at) l = absurd (none_bad text walk tokens w h at l.0)
+
+-- Where no token begins nothing else is lexed.
+pub one_short : (text : List ℕ) (walk : Walk) (tokens : List Token) → Walked text walk tokens → NoToken walk.place (drop walk.at text) → walk.at < length text
+    → (at : Span) → IsCutShort text tokens at → (these : List Token) (bad : Option Span) → IsLexed text these bad → (tokens ≡ these) × (Some at ≡ bad)
+one_short text walk tokens w none more at x these None l = absurd (no_tokens text walk tokens w none more these l)
+one_short text walk tokens w none more at x these (Some b) l = (one_before text at b tokens these x l, some_one at b (one_bad text at b x.0 l.0))
+
+-- What is answered where no token begins, by its parts.
+module _ (text rest : List ℕ) (walk : Walk) (tokens : List Token) (w : Walked text walk tokens) (none : NoToken walk.place (drop walk.at text)) (more : walk.at < length text)
+    (is_rest : rest ≡ drop walk.at text) (found : List Token) (bad : Option Span) (is_found : found ≡ tokens) (is_bad_there : bad ≡ Some (span_of_first walk.at rest)) where
+  there : Some (span_of_first walk.at (drop walk.at text)) ≡ bad
+  there = sym (is_bad_there ∙ ap (λ l. Some (span_of_first walk.at l)) is_rest)
+
+  pub short_lexed : IsLexed text found bad
+  short_lexed = subst (λ l. IsLexed text l bad) (sym is_found) (subst (IsLexed text tokens) there (cut_short text walk tokens w none more))
+
+  pub only_short : (these : List Token) (other : Option Span) → IsLexed text these other → (found ≡ these) × (bad ≡ other)
+  only_short these other l =
+      let one = one_short text walk tokens w none more (span_of_first walk.at (drop walk.at text)) (cut_short text walk tokens w none more) these other l in
+      (is_found ∙ one.0, sym there ∙ one.1)
+
+-- Where the answer has no place without a token, its tokens are the text's, and no place is one.
+module _ (text : List ℕ) (tokens : List Token) (bad : Option Span) (one : (these : List Token) (other : Option Span) → IsLexed text these other → (tokens ≡ these) × (bad ≡ other)) where
+  pub only_tokens : (these : List Token) → AreTokens text these → tokens ≡ these
+  only_tokens these t = (one these None t).0
+
+  pub not_bad : bad ≡ None → (this : Span) → IsBad text this → ⊥
+  not_bad e this b = clash this (sym e ∙ (one (tokens_of start b.pieces) (Some this) (b, refl)).1)
+    where
+      clash : (at : Span) → ◌≡◌ {A = Option Span} None (Some at) → ⊥
+      clash at h = cc
+
+  pub not_tokens : (at : Span) → bad ≡ Some at → (these : List Token) → AreTokens text these → ⊥
+  not_tokens at e these t = clash at (sym e ∙ (one these None t).1)
+    where
+      clash : (at : Span) → ◌≡◌ {A = Option Span} (Some at) None → ⊥
+      clash at h = cc
+
+  pub only_bad : (at : Span) → bad ≡ Some at → (this : Span) → IsBad text this → at ≡ this
+  only_bad at e this b = same at this (sym e ∙ (one (tokens_of start b.pieces) (Some this) (b, refl)).1)
+    where
+      same : (a b : Span) → Some a ≡ Some b → a ≡ b
+      same a b h = cc
 
 -- ---- a turn of the loop, by what each step of it gave
 

@@ -1,5 +1,5 @@
 -- The tokens of a text: at each place the longest run, until the text ends.
-use Rattle.std.specs.Prelude.{◌≡◌, ℕ, ◌+◌, ◌<◌, ◌≤◌, ◌⊎◌, false, ◌||◌, List, [], ◌∷◌, length, take, drop, slice_index, Some, None}
+use Rattle.std.specs.Prelude.{◌≡◌, ℕ, ◌+◌, ◌<◌, ◌≤◌, ◌⊎◌, false, ◌||◌, List, [], ◌∷◌, length, take, drop, slice_index, Option, Some, None}
 use Rattle.std.specs.Str.{chars}
 use Rattle.std.specs.Char.{len_utf8}
 use Rattle.src_text.specs.declared.span.Span.{Span}
@@ -87,3 +87,16 @@ pub record IsBad (text : List ℕ) (at : Span) : Type 0 where
   pub more : 0 < length rest
   pub starts : at.start ≡ (past_all start pieces).at
   pub ends : at.end ≡ at.start + len_utf8 (slice_index (chars rest) 0)
+
+-- These are the tokens before the place where the text can't be cut on, whose character has this span.
+abbrev pub IsCutShort : List ℕ → List Token → Span → Type 0
+IsCutShort text tokens at = (b : IsBad text at) × (tokens ≡ tokens_of start b.pieces)
+
+-- These are the tokens of the text, or those before such a place.
+abbrev pub IsLexed : List ℕ → List Token → Option Span → Type 0
+IsLexed text tokens None = AreTokens text tokens
+IsLexed text tokens (Some at) = IsCutShort text tokens at
+
+-- the span of the first character behind some bytes
+abbrev pub span_of_first : ℕ → List ℕ → Span
+span_of_first at rest = record { start = at; end = at + len_utf8 (slice_index (chars rest) 0) }

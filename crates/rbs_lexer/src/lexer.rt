@@ -1,14 +1,14 @@
-ghost use Rattle.std.specs.Prelude.{◌≡◌, ◌+◌, ◌<◌, ◌≤◌, ◌^◌, List, length, slice_index, chars, IfOk};
+ghost use Rattle.std.specs.Prelude.{◌≡◌, ◌+◌, ◌<◌, ◌≤◌, ◌^◌, List, length, slice_index, chars, Option, Some, IfOk};
 ghost use Rattle.std.specs.Char.{len_utf8};
 ghost use Rattle.src_text.specs.declared.span.Span.{Span};
 ghost use Rattle.rbs_lexer.specs.declared.token.Token.{Token};
-ghost use Rattle.rbs_lexer.specs.Lexing.{AreTokens, IsBad};
+ghost use Rattle.rbs_lexer.specs.Lexing.{AreTokens, IsBad, IsLexed, span_of_first};
 ghost use Rattle.rbs_lexer.specs.Answers.{Answers, IsTokens, IsBadAt};
 
 use crate::front::front;
 use crate::kind::Kind;
 use crate::reading::Reading;
-use crate::token::{BadToken, Token};
+use crate::token::{BadToken, Lexed, Token};
 use crate::walk::{Walk, begin, past_gap, past_token};
 use src_text::{Mem, Seq, Span, Text};
 use std::alloc::Global;
@@ -29,12 +29,27 @@ pub fn tokens(alloc: Global, text: &str) -> Result<Seq<Token>, BadToken>
     // It has no other such place, and none where tokens are answered.
     ensures bad { (this : Span) → IsBad text.now this → IsBadAt result this }
 {
+    let lexed = lex(alloc, text)?;
+    match lexed.bad {
+        None => Ok(lexed.tokens),
+        Some(at) => Err(BadToken::At(at)),
+    }
+}
+
+/// The tokens of a text as far as it has some, and the first place where neither a token begins nor what is skipped.
+pub fn lex(alloc: Global, text: &str) -> Mem<Lexed>
+    requires { length text.now < 2 ^ 32 }
+    // What is answered is so.
+    ensures answers { IfOk result (λ l. IsLexed text.now l.tokens l.bad) }
+    // Nothing else is so.
+    ensures one { (these : List Token) (bad : Option Span) → IsLexed text.now these bad → IfOk result (λ l. (l.tokens ≡ these) × (l.bad ≡ bad)) }
+{
     let mut found = Seq::new(alloc);
     let mut walk = begin();
     while walk.at < text.len() {
         let rest = &text[walk.at..];
         let Some(next) = front(walk.place, rest) else {
-            return Err(BadToken::At(first_span(walk.at, rest)));
+            return Ok(cut_short(found, walk, rest));
         };
         let run = &rest[..next.len];
         match next.reading {
@@ -44,10 +59,26 @@ pub fn tokens(alloc: Global, text: &str) -> Result<Seq<Token>, BadToken>
                 walk = past_token(walk, kind, run);
             }
             Reading::Skipped => walk = past_gap(walk, run),
-            Reading::Refused => return Err(BadToken::At(first_span(walk.at, rest))),
+            Reading::Refused => return Ok(cut_short(found, walk, rest)),
         }
     }
-    Ok(found)
+    Ok(Lexed {
+        tokens: found,
+        bad: None,
+    })
+}
+
+// The tokens before a place where none begins.
+fn cut_short(tokens: Seq<Token>, walk: Walk, rest: &str) -> Lexed
+    requires some { 0 < length rest.now }
+    requires fits { walk.at + length rest.now < 2 ^ 32 }
+    ensures tokens { result.tokens ≡ tokens }
+    ensures bad { result.bad ≡ Some (span_of_first walk.at rest.now) }
+{
+    Lexed {
+        tokens,
+        bad: Some(first_span(walk.at, rest)),
+    }
 }
 
 // The token of a run at which a walk stands.
@@ -70,8 +101,7 @@ fn token(alloc: Global, walk: Walk, kind: Kind, run: &str) -> Mem<Token>
 fn first_span(at: usize, rest: &str) -> Span
     requires some { 0 < length rest.now }
     requires fits { at + length rest.now < 2 ^ 32 }
-    ensures start { result.start ≡ at }
-    ensures end { result.end ≡ at + len_utf8 (slice_index (chars rest.now) 0) }
+    ensures { result ≡ span_of_first at rest.now }
 {
     Span {
         start: at as u32,

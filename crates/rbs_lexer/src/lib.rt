@@ -19,8 +19,8 @@ mod walk;
 mod words;
 
 pub use kind::Kind;
-pub use lexer::tokens;
-pub use token::{BadToken, Token};
+pub use lexer::{lex, tokens};
+pub use token::{BadToken, Lexed, Token};
 
 #[cfg(test)]
 mod tests;

@@ -1,5 +1,5 @@
 use crate::kind::Kind;
-use src_text::{NoMemory, Span, Text};
+use src_text::{NoMemory, Seq, Span, Text};
 
 /// A token of a text.
 #[derive(Debug, Drop, PartialEq, Eq)]
@@ -10,6 +10,14 @@ pub struct Token {
     pub at: Span,
     /// Whether a line ends between the token before it, or the text's start, and the token.
     pub begins_line: bool,
+}
+
+/// The tokens of a text, up to its end or to the first place where none begins.
+#[derive(Debug, Drop)]
+pub struct Lexed {
+    pub tokens: Seq<Token>,
+    /// The character that is in no token and isn't skipped, where there is one.
+    pub bad: Option<Span>,
 }
 
 /// Why a text has no tokens.
