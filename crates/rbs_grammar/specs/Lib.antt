@@ -1,0 +1,12 @@
+pub mod Rules
+pub mod Grammar
+pub mod Parts
+pub mod Values
+pub mod Names
+pub mod Types
+pub mod Functions
+pub mod Members
+pub mod Declarations
+pub mod Levels
+pub mod Parse
+pub mod Texts
