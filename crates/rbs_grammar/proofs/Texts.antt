@@ -6,7 +6,7 @@ use Rattle.rbs_lexer.specs.declared.token.Token.{Token}
 use Rattle.rbs_lexer.specs.Lexing.{IsLexed}
 use Rattle.rbs_grammar.specs.Grammar.{Fault, syntax, deep}
 use Rattle.rbs_grammar.specs.Parse.{Tree, Spells, Opens, CanGoOn, NoFurther, SyntaxAt, DeepAt, parse}
-use Rattle.rbs_grammar.specs.Texts.{room_of_texts, HasTree, stop_of, place_of, StopsAt, IsRefused, IsTooDeep, IsAnswer, answer_of}
+use Rattle.rbs_grammar.specs.Texts.{room_of_texts, HasTree, stop_of, place_of, StopsAt, IsRefused, IsTooDeep, Answer, IsAnswer, answer_of}
 use Rattle.rbs_grammar.proofs.Parses.{tree_spelled, fault_refused, tree_not_deep, syntax_not_deep, spelled_parses, open_parses, spelled_no_syntax_fault}
 
 -- ---- what is answered is so
@@ -117,22 +117,18 @@ module _ (ts : List Token) where
 -- ---- nothing else is so
 
 module _ (text : List ℕ) (tokens : List Token) (bad : Option Span) (one : (these : List Token) (other : Option Span) → IsLexed text these other → (tokens ≡ these) × (bad ≡ other)) where
-  pub one_answer_tree : (x : Tree) → HasTree text x → answer_of (stop_of (length text) bad) bad (parse room_of_texts tokens) ≡ Ok x
+  one_answer_tree : (x : Tree) → HasTree text x → answer_of (stop_of (length text) bad) bad (parse room_of_texts tokens) ≡ Ok x
   one_answer_tree x h =
       let same = one h.0 None h.1 in
       ap (λ b. answer_of (stop_of (length text) b) b (parse room_of_texts tokens)) same.1
       ∙ ap (λ o. answer_of (stop_of (length text) None) None o) (ap (parse room_of_texts) same.0 ∙ spelled_parses room_of_texts h.0 x h.2)
 
-  deep_by : (b : Option Span) (at : List Token) → answer_of (stop_of (length text) b) b (Err (deep, at)) ≡ Err (deep, place_of (stop_of (length text) b) at)
-  deep_by None at = refl
-  deep_by (Some c) at = refl
-
-  pub one_answer_deep : (span : Span) → IsTooDeep text span → answer_of (stop_of (length text) bad) bad (parse room_of_texts tokens) ≡ Err (deep, span)
+  one_answer_deep : (span : Span) → IsTooDeep text span → answer_of (stop_of (length text) bad) bad (parse room_of_texts tokens) ≡ Err (deep, span)
   one_answer_deep span h =
       let same = one h.tokens h.bad h.lexed in
       ap (λ b. answer_of (stop_of (length text) b) b (parse room_of_texts tokens)) same.1
       ∙ ap (answer_of (stop_of (length text) h.bad) h.bad) (ap (parse room_of_texts) same.0 ∙ open_parses room_of_texts h.tokens h.at h.deep.opens)
-      ∙ deep_by h.bad h.at ∙ ap (λ s. Err (deep, s)) (sym h.is_there)
+      ∙ ap (λ s. Err (deep, s)) (sym h.is_there)
 
   refused_by : (ts : List Token) (b : Option Span) (at : List Token) → StopsAt ts b at → ((there : List Token) → Opens room_of_texts ts there → ⊥) → (o : Result Tree (Fault × List Token)) → parse room_of_texts ts ≡ o
       → answer_of (stop_of (length text) b) b o ≡ Err (syntax, place_of (stop_of (length text) b) at)
@@ -144,9 +140,14 @@ module _ (text : List ℕ) (tokens : List Token) (bad : Option Span) (one : (the
   refused_by ts (Some b) at s shallow (Err (syntax, there)) e = ap (λ l. Err (syntax, place_of (stop_of (length text) (Some b)) l)) (stops_once ts (Some b) there at (fault_refused room_of_texts ts syntax there e) s)
   refused_by ts b at s shallow (Err (deep, there)) e = let d : DeepAt room_of_texts ts there = fault_refused room_of_texts ts deep there e in absurd (shallow there d.opens)
 
-  pub one_answer_refused : (span : Span) → IsRefused text span → answer_of (stop_of (length text) bad) bad (parse room_of_texts tokens) ≡ Err (syntax, span)
+  one_answer_refused : (span : Span) → IsRefused text span → answer_of (stop_of (length text) bad) bad (parse room_of_texts tokens) ≡ Err (syntax, span)
   one_answer_refused span h =
       let same = one h.tokens h.bad h.lexed in
       ap (λ b. answer_of (stop_of (length text) b) b (parse room_of_texts tokens)) same.1
       ∙ ap (λ ts. answer_of (stop_of (length text) h.bad) h.bad (parse room_of_texts ts)) same.0
       ∙ refused_by h.tokens h.bad h.at h.stops h.not_deep (parse room_of_texts h.tokens) refl ∙ ap (λ s. Err (syntax, s)) (sym h.is_there)
+
+  pub one_answer : (a : Answer) → IsAnswer text a → answer_of (stop_of (length text) bad) bad (parse room_of_texts tokens) ≡ a
+  one_answer (Ok x) h = one_answer_tree x h
+  one_answer (Err (syntax, span)) h = one_answer_refused span h
+  one_answer (Err (deep, span)) h = one_answer_deep span h

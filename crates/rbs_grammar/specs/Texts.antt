@@ -60,8 +60,12 @@ IsAnswer text (Ok x) = HasTree text x
 IsAnswer text (Err (syntax, span)) = IsRefused text span
 IsAnswer text (Err (deep, span)) = IsTooDeep text span
 
+-- the tree of all tokens, unless behind them no token begins
+abbrev pub at_the_end : Option Span → Tree → Answer
+at_the_end None x = Ok x
+at_the_end (Some bad) x = Err (syntax, bad)
+
 -- the answer by what parsing the tokens gives
 abbrev pub answer_of : Span → Option Span → Result Tree (Fault × List Token) → Answer
-answer_of stop None (Ok x) = Ok x
-answer_of stop (Some bad) (Ok x) = Err (syntax, bad)
-answer_of stop bad (Err (fault, at)) = Err (fault, place_of stop at)
+answer_of stop bad (Ok x) = at_the_end bad x
+answer_of stop bad (Err e) = Err (e.0, place_of stop e.1)
