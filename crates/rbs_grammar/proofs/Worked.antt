@@ -19,7 +19,7 @@ use Rattle.rbs_grammar.specs.Values.{method_name_value}
 use Rattle.rbs_grammar.specs.Names.{constants, class_name, interface_name, alias_name, module_words, module_name}
 use Rattle.rbs_grammar.specs.Types.{a_type, a_function, type_args, absolute_words, relative_words, named, group, tuple, field, record_type, singleton, base, proc, opt, inter, union}
 use Rattle.rbs_grammar.specs.declared.parts.Parameters.{Parameters}
-use Rattle.rbs_grammar.specs.Functions.{optional_one, trailing, parameters_of, no_params, with_variables, function_of, param, first_params, optional_params, trailing_params, keyword_params, params, param_list, result, block, function, variable_name, variables, method_type}
+use Rattle.rbs_grammar.specs.Functions.{optional_one, trailing, parameters_of, no_params, with_variables, function_of, param, first_params, optional_params, trailing_params, keyword_params, params, param_list, result, block, function, variables, method_type}
 use Rattle.rbs_grammar.specs.Members.{a_declaration, ref, attribute_name, defined_name, overloads, method, shown_method, bracketed_variable, visible, mixin, alias, variable, member, interface_member}
 use Rattle.rbs_grammar.specs.Declarations.{type_param, type_params, superclass, class_decl, self_types, module_decl, interface_decl, alias_decl, constant_decl, global_decl, declaration, file}
 use Rattle.rbs_grammar.specs.Levels.{reads, rooms}
@@ -28,7 +28,7 @@ use Rattle.rbs_grammar.proofs.Acts.{sample}
 
 -- A row unfolds this, and with it all that is computed.
 computed : Unit {0}
-unfolding constants class_name interface_name alias_name module_words module_name a_type a_function type_args absolute_words relative_words named group tuple field record_type singleton base proc opt inter union param first_params optional_params trailing_params keyword_params params param_list result block function variable_name variables method_type a_declaration ref attribute_name defined_name overloads method shown_method bracketed_variable visible mixin alias variable member interface_member type_param type_params superclass class_decl self_types module_decl interface_decl alias_decl constant_decl global_decl declaration file reads parse rooms sample method_name_value
+unfolding constants class_name interface_name alias_name module_words module_name a_type a_function type_args absolute_words relative_words named group tuple field record_type singleton base proc opt inter union param first_params optional_params trailing_params keyword_params params param_list result block function variables method_type a_declaration ref attribute_name defined_name overloads method shown_method bracketed_variable visible mixin alias variable member interface_member type_param type_params superclass class_decl self_types module_decl interface_decl alias_decl constant_decl global_decl declaration file reads parse rooms sample method_name_value
 computed = tt
 
 -- ---- tokens and trees of one byte's name, all at the place from 0 to 0

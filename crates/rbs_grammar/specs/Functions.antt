@@ -195,13 +195,9 @@ function = seq function_of param_list (both (optional block) result)
 
 -- ---- method types
 
--- CN
-unfoldable pub variable_name : Grammar (List ℕ)
-variable_name = tok (is k.Constant) k.Constant text_of
-
 -- "[" CN ("," CN)* "]"
 unfoldable pub variables : Grammar (List (List ℕ))
-variables = behind k.LeftBracket (before (separated k.Comma variable_name) k.RightBracket)
+variables = behind k.LeftBracket (before (separated k.Comma (tok (is k.Constant) k.Constant text_of)) k.RightBracket)
 
 abbrev pub with_variables : List (List ℕ) → MethodType → MethodType
 with_variables vars fun = let f = out-MethodType fun in roll-MethodType (record {

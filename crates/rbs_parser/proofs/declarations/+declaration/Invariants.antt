@@ -1,0 +1,4 @@
+use Rattle.rbs_parser.proofs.declarations.+declaration.Given as goal
+
+abbrev pub decreases-declaration : goal.decreases-declaration
+decreases-declaration l = l.marked

@@ -1,0 +1,37 @@
+use Rattle.std.proofs.Common.{rules, arith, ◌∙◌}
+use Rattle.std.proofs.lemmas.Grind.{common_steps}
+use Rattle.rbs_lexer.specs.declared.kind.Kind.TheVariants as k
+use Rattle.rbs_grammar.specs.Levels.{rooms}
+use Rattle.rbs_grammar.specs.Declarations.{type_param}
+use Rattle.rbs_parser.specs.MemberParts.{type_param_list}
+use Rattle.rbs_parser.proofs.FineMembers.{fine_type_params}
+use Rattle.rbs_parser.proofs.Loops.{begin_rest, step_rest, end_rest, smaller_rest}
+use Rattle.rbs_parser.proofs.members.Room.type_param_list.Goals as goal
+
+pub returns-in_err-first : goal.returns-in_err-first
+unfolding type_param_list
+returns-in_err-first c =
+    let e = begin_rest (rooms c.args.self.now.marked c.args.self.now.functions) k.Comma type_param fine_type_params c.args.cursor.now in
+    first_of (search rules, grind (arith, common_steps))
+
+pub items-init : goal.items-init
+unfolding type_param_list
+items-init c =
+    let e = begin_rest (rooms c.args.self.now.marked c.args.self.now.functions) k.Comma type_param fine_type_params c.args.cursor.now in
+    first_of (search rules, grind (arith, common_steps))
+
+pub returns-in_err-next : goal.returns-in_err-next
+returns-in_err-next c =
+    let e = step_rest (rooms c.args.self.now.marked c.args.self.now.functions) k.Comma type_param fine_type_params c.items.all c.items.cursor c.items-test.ensures.found in
+    first_of (search rules, grind (arith, common_steps))
+
+pub items-smaller : goal.items-smaller
+items-smaller c = smaller_rest (rooms c.args.self.now.marked c.args.self.now.functions) k.Comma type_param fine_type_params c.items.cursor c.eat.new.self c.type_param-in-items.new.cursor c.in_ok-next.next c.items-test.ensures.found c.items-test.ensures.after c.in_ok-next.ensures
+
+pub items-preserved : goal.items-preserved
+items-preserved c =
+    let e = step_rest (rooms c.args.self.now.marked c.args.self.now.functions) k.Comma type_param fine_type_params c.items.all c.items.cursor c.items-test.ensures.found in
+    first_of (search rules, grind (arith, common_steps))
+
+pub returns : goal.returns
+returns c = c.items.invariant ∙ end_rest (rooms c.args.self.now.marked c.args.self.now.functions) k.Comma type_param fine_type_params c.items.all c.items.cursor c.eat.new.self c.items-test.ensures.found c.items-test.ensures.after

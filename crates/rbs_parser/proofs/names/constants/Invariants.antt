@@ -1,0 +1,13 @@
+use Rattle.std.proofs.Common.{◌≡◌, length}
+use Rattle.rbs_grammar.specs.declared.stage.Stage.TheVariants as at
+use Rattle.rbs_grammar.specs.Grammar.{read}
+use Rattle.rbs_grammar.specs.Levels.{full, read_in}
+use Rattle.rbs_grammar.specs.Names.{constants}
+use Rattle.rbs_parser.proofs.NameWords.{with_constants}
+use Rattle.rbs_parser.proofs.names.constants.Given as goal
+
+abbrev pub invariant-loop-cursor : goal.invariant-loop-cursor
+invariant-loop-cursor l = read (read_in full) constants l.fn.cursor ≡ with_constants l.words at.Open l.cursor
+
+abbrev pub decreases-loop-cursor : goal.decreases-loop-cursor
+decreases-loop-cursor l = length l.cursor
