@@ -12,3 +12,4 @@ pub mod Tables
 pub mod Values
 pub mod WordLen
 pub mod WordsFound
+pub mod FirstBytes

@@ -9,6 +9,10 @@ is_digit b = nat_le 48 b && nat_le b 57
 abbrev pub is_upper : ℕ → Bool
 is_upper b = nat_le 65 b && nat_le b 90
 
+-- a letter of ASCII, or `_`
+abbrev pub is_letter : ℕ → Bool
+is_letter b = (nat_le 97 b && nat_le b 122) || (is_upper b || b == 95)
+
 -- a byte that ends a line: \n, \r, and both of \r\n
 abbrev pub is_line_end : ℕ → Bool
 is_line_end b = b == 10 || b == 13
@@ -21,6 +25,11 @@ is_blank b = b == 32 || b == 9 || is_line_end b
 abbrev pub is_nil : List ℕ → Bool
 is_nil [] = true
 is_nil (b ∷ bs) = false
+
+-- whether there is a first byte, and it is of this class
+abbrev pub first_is : (ℕ → Bool) → List ℕ → Bool
+first_is p [] = false
+first_is p (b ∷ bs) = p b
 
 -- whether the first byte is this one, which isn't 0
 abbrev pub begins_with : ℕ → List ℕ → Bool

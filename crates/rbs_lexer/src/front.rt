@@ -1,4 +1,5 @@
 ghost use Rattle.std.specs.Prelude.{◌≡◌, ◌≤◌, ◌<◌, length, drop, slice_index, IfSome};
+ghost use Rattle.rbs_lexer.specs.Bytes.{first_is, is_letter};
 ghost use Rattle.rbs_lexer.specs.Finds as spec;
 
 use crate::gaps::{annotation, gap_len};
@@ -27,9 +28,37 @@ pub fn front(place: Place, text: &str) -> Option<Found>
     }
 }
 
-// The longest run that can stand anywhere.
-#[tactic(auto, unfolding(crate::specs::Finds::ordinary_front))]
+// The longest run that can stand anywhere. Most begin with a letter, and are words.
+#[tactic(auto, using(crate::proofs::FirstBytes::of_letter))]
 fn ordinary(text: &str) -> Option<Found>
+    ensures { result ≡ spec.ordinary_front text.now }
+{
+    if begins_with_letter(text.as_bytes()) {
+        word(text)
+    } else {
+        other(text)
+    }
+}
+
+// Whether the text begins with a letter of ASCII or `_`.
+fn begins_with_letter(text: &[u8]) -> bool
+    ensures { result ≡ first_is is_letter text.now }
+{
+    match text {
+        [first, ..] => is_letter(*first),
+        [] => false,
+    }
+}
+
+fn is_letter(byte: u8) -> bool
+    ensures { result ≡ is_letter byte }
+{
+    byte >= b'a' && byte <= b'z' || byte >= b'A' && byte <= b'Z' || byte == b'_'
+}
+
+// The longest run that can stand anywhere, whatever it begins with.
+#[tactic(auto, unfolding(crate::specs::Finds::ordinary_front))]
+fn other(text: &str) -> Option<Found>
     ensures { result ≡ spec.ordinary_front text.now }
 {
     let bytes = text.as_bytes();

@@ -67,7 +67,8 @@ fn closing(opening: u8) -> Option<u8>
     }
 }
 
-fn is_blank(byte: u8) -> bool
+/// Whether the byte is a blank.
+pub fn is_blank(byte: u8) -> bool
     ensures { result ≡ bytes.is_blank byte }
 {
     byte == b' ' || byte == b'\t' || is_line_end(byte)

@@ -1,6 +1,8 @@
 ghost use Rattle.std.specs.Prelude.{◌≡◌, map};
+ghost use Rattle.rbs_lexer.specs.Bytes.{first_is, is_blank};
 ghost use Rattle.rbs_lexer.specs.Finds as spec;
 
+use crate::gaps::is_blank;
 use crate::kind::Kind;
 use crate::reading::{Found, longer, longer_len, of_kind};
 
@@ -39,12 +41,33 @@ const OPERATORS: [&str; 27] = [
     "<<", ">>", "&", "|", "^", "~", "!", "[]", "[]=", "+@", "-@",
 ];
 
-/// The sign at the front.
-#[tactic(auto, unfolding(crate::specs::Finds::sign_front))]
+/// The sign at the front. Before the table is searched it is asked whether a blank stands there, as it often does.
+#[tactic(auto, using(crate::proofs::FirstBytes::no_sign_at_blank))]
 pub fn sign(text: &[u8]) -> Option<Found>
     ensures { result ≡ spec.sign_front text.now }
 {
+    if begins_with_blank(text) {
+        None
+    } else {
+        any_sign(text)
+    }
+}
+
+#[tactic(auto, unfolding(crate::specs::Finds::sign_front))]
+fn any_sign(text: &[u8]) -> Option<Found>
+    ensures { result ≡ spec.sign_front text.now }
+{
     longest_sign(&SIGNS, text)
+}
+
+// Whether the text begins with a blank.
+fn begins_with_blank(text: &[u8]) -> bool
+    ensures { result ≡ first_is is_blank text.now }
+{
+    match text {
+        [first, ..] => is_blank(*first),
+        [] => false,
+    }
 }
 
 /// The name at the front that is a token of its own.
