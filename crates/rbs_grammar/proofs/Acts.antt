@@ -1,6 +1,6 @@
 -- What a reader takes, what it would do before other tokens, and what could come where it is stuck.
 use Rattle.std.proofs.Common.{◌≡◌, ◌⊎◌, inl, inr, ◌<◌, Bool, true, false, ◌||◌, ◌&&◌, if◌then◌else◌, List, [], ◌∷◌, ◌++◌, length, Ok, Err, refl, sym, ◌∙◌, ap, subst, append_assoc, arith}
-use Rattle.rbs_lexer.specs.declared.token.Token.{Token}
+use Rattle.rbs_lexer.specs.Tokens.{Token}
 use Rattle.rbs_lexer.specs.declared.kind.Kind.{Kind}
 use Rattle.rbs_grammar.specs.Rules.{Kinds}
 use Rattle.rbs_grammar.specs.Grammar.{Way, tok_way, seq_way, map_way, prefer_way, ahead_way, begins, begins_two, read_behind_two, apart, Fault, syntax, Outcome, Reader, then_read, pure, read_token, read_both}

@@ -1,6 +1,6 @@
 -- Items of several kinds, each of which leads to a stage.
 use Rattle.std.proofs.Common.{◌≡◌, inl, inr, ℕ, zero, suc, ◌<◌, ◌≤◌, Bool, true, false, if◌then◌else◌, List, [], ◌∷◌, ◌++◌, length, Ok, Err, refl, sym, ◌∙◌, ap, subst, append_assoc, arith}
-use Rattle.rbs_lexer.specs.declared.token.Token.{Token}
+use Rattle.rbs_lexer.specs.Tokens.{Token}
 use Rattle.rbs_grammar.specs.declared.stage.Stage.{Stage}
 use Rattle.rbs_grammar.specs.Rules.{Kinds}
 use Rattle.rbs_grammar.specs.Grammar.{Way, Chain, chain_way, begins, Fault, Outcome, Reader, then_read, pure, read_chain, read_stages}

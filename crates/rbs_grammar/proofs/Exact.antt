@@ -1,6 +1,6 @@
 -- What is spelled is read, a rule opens where the reader says so, and more room changes no other answer.
 use Rattle.std.proofs.Common.{◌≡◌, ◌⊎◌, inl, inr, Bool, true, false, if◌then◌else◌, ◌||◌, ◌&&◌, List, [], ◌∷◌, ◌++◌, Ok, refl, sym, ◌∙◌, ap, subst, append_assoc}
-use Rattle.rbs_lexer.specs.declared.token.Token.{Token}
+use Rattle.rbs_lexer.specs.Tokens.{Token}
 use Rattle.rbs_lexer.specs.declared.kind.Kind.{Kind}
 use Rattle.rbs_grammar.specs.declared.stage.Stage.{Stage}
 use Rattle.rbs_grammar.specs.Rules.{Rule, Value, Kinds, some_stage, start, after, bar}

@@ -1,6 +1,6 @@
 -- What a grammar spells begins with one of its first tokens, or is empty.
 use Rattle.std.proofs.Common.{◌≡◌, ◌⊎◌, inl, inr, Bool, true, false, not, ◌||◌, ◌&&◌, List, [], ◌∷◌, refl, sym, ◌∙◌, subst}
-use Rattle.rbs_lexer.specs.declared.token.Token.{Token}
+use Rattle.rbs_lexer.specs.Tokens.{Token}
 use Rattle.rbs_lexer.specs.declared.kind.Kind.{Kind}
 use Rattle.rbs_grammar.specs.declared.stage.Stage.{Stage}
 use Rattle.rbs_grammar.specs.Rules.{Rule, Value, Kinds, some_stage, every_stage, start}

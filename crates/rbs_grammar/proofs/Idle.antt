@@ -1,6 +1,6 @@
 -- Before a token that doesn't begin it, a grammar reads nothing: it is empty, or that is a syntax fault there.
 use Rattle.std.proofs.Common.{◌≡◌, ℕ, zero, suc, Bool, true, false, if◌then◌else◌, ◌||◌, ◌&&◌, List, [], ◌∷◌, Ok, Err, refl, sym, ap, subst}
-use Rattle.rbs_lexer.specs.declared.token.Token.{Token}
+use Rattle.rbs_lexer.specs.Tokens.{Token}
 use Rattle.rbs_grammar.specs.declared.stage.Stage.{Stage}
 use Rattle.rbs_grammar.specs.Rules.{Rule, Value, Kinds, start}
 use Rattle.rbs_grammar.specs.Grammar.{Grammar, eps, tok, seq, alt, star, prefer, ahead, chain, call, empty, first, begins, fine, syntax, Outcome, Reader, then_read, pure, read_token, read_both, read_row, read_stages, read}

@@ -1,6 +1,6 @@
 -- What is read leaves fewer tokens, or as many where it may be empty.
 use Rattle.std.proofs.Common.{◌≡◌, ℕ, zero, suc, ◌<◌, ◌≤◌, Bool, true, false, if◌then◌else◌, ◌&&◌, ◌||◌, List, [], ◌∷◌, length, Ok, Err, refl, subst, arith}
-use Rattle.rbs_lexer.specs.declared.token.Token.{Token}
+use Rattle.rbs_lexer.specs.Tokens.{Token}
 use Rattle.rbs_grammar.specs.declared.stage.Stage.{Stage}
 use Rattle.rbs_grammar.specs.Rules.{Rule, Value, Kinds}
 use Rattle.rbs_grammar.specs.Grammar.{Grammar, eps, tok, seq, alt, star, prefer, ahead, chain, call, empty, first, begins, begins_two, fine, syntax, Outcome, Reader, then_read, pure, read_token, read_both, read_row, read_all, read_behind_two, read_chain, read_stages, read}

@@ -1,7 +1,7 @@
 -- The laws of the grammar's rules, by the room that is left.
 use Rattle.std.proofs.Common.{◌≡◌, ◌⊎◌, inl, inr, ℕ, Bool, true, false, not, if◌then◌else◌, List, [], ◌∷◌, length, Ok, Err, arith, refl, sym, ◌∙◌, ap, subst}
 use Rattle.std.proofs.lemmas.List.{append-nil}
-use Rattle.rbs_lexer.specs.declared.token.Token.{Token}
+use Rattle.rbs_lexer.specs.Tokens.{Token}
 use Rattle.rbs_grammar.specs.Rules.{Rule, Value, Kinds, start, after, bar}
 use Rattle.rbs_grammar.specs.Grammar.{Grammar, Way, spells, opens, empty, first, more, barred, lead, covers, begins, fine, syntax, deep, Outcome, Reader, read}
 use Rattle.rbs_grammar.specs.Declarations.{body}

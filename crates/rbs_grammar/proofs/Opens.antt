@@ -1,6 +1,6 @@
 -- The reader says that one rule too many opens exactly where it does.
 use Rattle.std.proofs.Common.{◌≡◌, inl, inr, ℕ, zero, suc, ◌<◌, Bool, true, false, if◌then◌else◌, List, [], ◌∷◌, length, Result, Ok, Err, refl, sym, ◌∙◌, ap, subst, arith}
-use Rattle.rbs_lexer.specs.declared.token.Token.{Token}
+use Rattle.rbs_lexer.specs.Tokens.{Token}
 use Rattle.rbs_grammar.specs.declared.stage.Stage.{Stage}
 use Rattle.rbs_grammar.specs.Rules.{Rule, Value, Kinds, start, after}
 use Rattle.rbs_grammar.specs.Grammar.{Grammar, eps, tok, seq, alt, star, prefer, ahead, chain, call, Way, Row, Reach, spells, Place, no_place, seq_place, either_place, place_clear, star_place, ahead_place, chain_place, opens, empty, joined, first, more, begins, begins_two, fine, apart, covers, Fault, syntax, deep, Outcome, Reader, then_read, pure, read_token, read_both, read_all, read_behind_two, read_stages, read}

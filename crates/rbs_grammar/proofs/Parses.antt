@@ -1,7 +1,7 @@
 -- Parsing a whole list of tokens: the tree that they spell, or the first place where they can't go on.
 use Rattle.std.proofs.Common.{inr, ◌≡◌, List, [], ◌∷◌, ◌++◌, Result, Ok, Err, refl, sym, ◌∙◌, ap, subst, append_assoc}
 use Rattle.std.proofs.lemmas.List.{append-nil}
-use Rattle.rbs_lexer.specs.declared.token.Token.{Token}
+use Rattle.rbs_lexer.specs.Tokens.{Token}
 use Rattle.rbs_grammar.specs.Grammar.{spells, opens, Fault, syntax, deep, Outcome, read, barred}
 use Rattle.rbs_grammar.specs.Levels.{Room, spell, spell_in, open_in, read_in}
 use Rattle.rbs_grammar.specs.Declarations.{file}

@@ -1,6 +1,6 @@
 -- What a grammar begins with it takes: before one of its first tokens a syntax fault stands behind a token at least.
 use Rattle.std.proofs.Common.{◌≡◌, ℕ, zero, suc, ◌<◌, Bool, true, false, not, if◌then◌else◌, ◌||◌, List, [], ◌∷◌, length, Ok, Err, refl, sym, subst, arith}
-use Rattle.rbs_lexer.specs.declared.token.Token.{Token}
+use Rattle.rbs_lexer.specs.Tokens.{Token}
 use Rattle.rbs_grammar.specs.declared.stage.Stage.{Stage}
 use Rattle.rbs_grammar.specs.Rules.{Rule, Value, Kinds, start}
 use Rattle.rbs_grammar.specs.Grammar.{Grammar, eps, tok, seq, alt, star, prefer, ahead, chain, call, empty, first, joined, begins, begins_two, fine, covers, Fault, syntax, deep, Outcome, Reader, then_read, pure, read_token, read_both, read_row, read_all, read_behind_two, read_chain, read_stages, read}

@@ -1,6 +1,6 @@
 -- What is read where so many marked rules and so many functions may still be opened.
 use Rattle.std.proofs.Common.{◌≡◌, ℕ, zero, suc, ◌+◌, ◌≤◌, if◌then◌else◌, List, [], Err, refl, sym, ◌∙◌, ap, subst, arith}
-use Rattle.rbs_lexer.specs.declared.token.Token.{Token}
+use Rattle.rbs_lexer.specs.Tokens.{Token}
 use Rattle.rbs_grammar.specs.Rules.{Rule, start}
 use Rattle.rbs_grammar.specs.Grammar.{spells, begins, syntax, deep, read}
 use Rattle.rbs_grammar.specs.Declarations.{body, file}

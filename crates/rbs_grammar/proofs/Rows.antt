@@ -1,7 +1,7 @@
 -- Any number of items in a row.
 use Rattle.std.proofs.Common.{◌≡◌, inl, inr, ℕ, zero, suc, ◌<◌, ◌≤◌, Bool, true, false, if◌then◌else◌, List, [], ◌∷◌, ◌++◌, length, Result, Ok, Err, refl, sym, ◌∙◌, ap, subst, arith}
 use Rattle.std.proofs.lemmas.List.{length-append}
-use Rattle.rbs_lexer.specs.declared.token.Token.{Token}
+use Rattle.rbs_lexer.specs.Tokens.{Token}
 use Rattle.rbs_grammar.specs.Rules.{Kinds}
 use Rattle.rbs_grammar.specs.Grammar.{Way, Row, seq_way, begins, Fault, Outcome, Reader, then_read, pure, read_both, read_row, read_all}
 use Rattle.rbs_grammar.proofs.Heads.{true≢false}

@@ -1,6 +1,6 @@
 -- What is computed once for each rule.
 use Rattle.std.proofs.Common.{◌≡◌, true, false, List, [], ◌∷◌, Ok, None, refl}
-use Rattle.rbs_lexer.specs.declared.token.Token.{Token}
+use Rattle.rbs_lexer.specs.Tokens.{Token}
 use Rattle.rbs_lexer.specs.declared.kind.Kind.TheVariants as k
 use Rattle.rbs_tree.specs.declared.names.TypeName.{TypeName}
 use Rattle.rbs_tree.specs.declared.types.Ty.{Ty}

@@ -2,8 +2,9 @@
 use Rattle.std.proofs.Common.{◌≡◌, ℕ, List, [], ◌∷◌, ◌++◌, length, Option, Some, None, Result, Ok, Err, refl, sym, ◌∙◌, ap, subst, append_assoc}
 use Rattle.std.proofs.lemmas.List.{append-nil}
 use Rattle.src_text.specs.declared.span.Span.{Span}
-use Rattle.rbs_lexer.specs.declared.token.Token.{Token}
+use Rattle.rbs_lexer.specs.Tokens.{Token}
 use Rattle.rbs_lexer.specs.Lexing.{IsLexed}
+use Rattle.rbs_lexer.proofs.Lexings.{one_lexing}
 use Rattle.rbs_grammar.specs.Grammar.{Fault, syntax, deep}
 use Rattle.rbs_grammar.specs.Parse.{Tree, Spells, Opens, CanGoOn, NoFurther, SyntaxAt, DeepAt, parse}
 use Rattle.rbs_grammar.specs.Texts.{room_of_texts, HasTree, stop_of, place_of, StopsAt, IsRefused, IsTooDeep, Answer, IsAnswer, answer_of}
@@ -151,3 +152,22 @@ module _ (text : List ℕ) (tokens : List Token) (bad : Option Span) (one : (the
   one_answer (Ok x) h = one_answer_tree x h
   one_answer (Err (syntax, span)) h = one_answer_refused span h
   one_answer (Err (deep, span)) h = one_answer_deep span h
+
+-- ---- one answer
+
+-- the tokens of a text that has an answer
+pub record IsTokenized (text : List ℕ) : Type 0 where
+  pub tokens : List Token
+  pub bad : Option Span
+  pub lexed : IsLexed text tokens bad
+
+tokens_of_answer : (text : List ℕ) (a : Answer) → IsAnswer text a → IsTokenized text
+tokens_of_answer text (Ok x) h = record { tokens = h.0; bad = None; lexed = h.1 }
+tokens_of_answer text (Err (syntax, span)) h = record { tokens = h.tokens; bad = h.bad; lexed = h.lexed }
+tokens_of_answer text (Err (deep, span)) h = record { tokens = h.tokens; bad = h.bad; lexed = h.lexed }
+
+pub only_answer : (text : List ℕ) (a b : Answer) → IsAnswer text a → IsAnswer text b → a ≡ b
+only_answer text a b x y =
+    let t = tokens_of_answer text a x in
+    let one : (these : List Token) (other : Option Span) → IsLexed text these other → (t.tokens ≡ these) × (t.bad ≡ other) = λ these other l. one_lexing text t.tokens these t.bad other t.lexed l in
+    sym (one_answer text t.tokens t.bad one a x) ∙ one_answer text t.tokens t.bad one b y

@@ -1,6 +1,6 @@
 -- The grammar of functions and method types.
 use Rattle.std.specs.Prelude.{ℕ, Bool, true, false, not, List, [], ◌∷◌, Option, Some, None}
-use Rattle.rbs_lexer.specs.declared.token.Token.{Token}
+use Rattle.rbs_lexer.specs.Tokens.{Token}
 use Rattle.rbs_lexer.specs.declared.kind.Kind.TheVariants as k
 use Rattle.rbs_tree.specs.declared.types.Ty.{Ty}
 use Rattle.rbs_tree.specs.declared.types.MethodType.{MethodType}

@@ -1,6 +1,6 @@
 -- Names of classes, modules, interfaces and type aliases.
 use Rattle.std.specs.Prelude.{ℕ, true, false, List, [], ◌∷◌, ◌++◌, map, Option, Some, None}
-use Rattle.rbs_lexer.specs.declared.token.Token.{Token}
+use Rattle.rbs_lexer.specs.Tokens.{Token}
 use Rattle.rbs_lexer.specs.declared.kind.Kind.TheVariants as k
 use Rattle.rbs_tree.specs.declared.names.TypeName.{TypeName}
 use Rattle.rbs_grammar.specs.declared.parts.Words.{Words}

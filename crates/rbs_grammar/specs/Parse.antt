@@ -1,6 +1,6 @@
 -- What parsing a whole list of tokens answers.
 use Rattle.std.specs.Prelude.{◌≡◌, List, [], ◌∷◌, ◌++◌, Result, Ok, Err}
-use Rattle.rbs_lexer.specs.declared.token.Token.{Token}
+use Rattle.rbs_lexer.specs.Tokens.{Token}
 use Rattle.rbs_tree.specs.declared.decls.Decl.{Decl}
 use Rattle.rbs_grammar.specs.Grammar.{spells, opens, Fault, syntax, deep, Outcome, read}
 use Rattle.rbs_grammar.specs.Declarations.{file}

@@ -1,6 +1,6 @@
 -- Small grammars that others are put together from.
 use Rattle.std.specs.Prelude.{Bool, true, false, List, [], ◌∷◌, Option, Some, None}
-use Rattle.rbs_lexer.specs.declared.token.Token.{Token}
+use Rattle.rbs_lexer.specs.Tokens.{Token}
 use Rattle.rbs_lexer.specs.declared.kind.Kind.{Kind}
 use Rattle.rbs_grammar.specs.Rules.{Kinds, is}
 use Rattle.rbs_grammar.specs.Grammar.{Grammar, eps, tok, seq, alt, star}

@@ -1,7 +1,7 @@
 -- The tree of a text, or the first of its refusals.
 use Rattle.std.specs.Prelude.{◌≡◌, ℕ, List, [], ◌∷◌, length, Option, Some, None, Result, Ok, Err}
 use Rattle.src_text.specs.declared.span.Span.{Span}
-use Rattle.rbs_lexer.specs.declared.token.Token.{Token}
+use Rattle.rbs_lexer.specs.Tokens.{Token}
 use Rattle.rbs_lexer.specs.Lexing.{AreTokens, IsLexed}
 use Rattle.rbs_grammar.specs.Grammar.{Fault, syntax, deep}
 use Rattle.rbs_grammar.specs.Levels.{Room, rooms}

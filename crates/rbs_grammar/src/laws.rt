@@ -1,9 +1,10 @@
 //! Laws of the grammar. Each function is a law, and does no work.
 
-ghost use Rattle.std.specs.Prelude.{◌≡◌, List};
-ghost use Rattle.rbs_lexer.specs.declared.token.Token.{Token};
+ghost use Rattle.std.specs.Prelude.{◌≡◌, ℕ, List};
+ghost use Rattle.rbs_lexer.specs.Tokens.{Token};
 ghost use Rattle.rbs_grammar.specs.Levels.{Room};
 ghost use Rattle.rbs_grammar.specs.Parse.{Tree, Spells, Opens, SyntaxAt, SpelledOrRefused};
+ghost use Rattle.rbs_grammar.specs.Texts.{Answer, IsAnswer};
 
 /// No tokens spell two trees, whatever room there is.
 pub fn one_tree()
@@ -20,4 +21,9 @@ pub fn every_list_is_spelled_or_refused()
 pub fn a_spelled_list_is_not_refused()
     ensures syntax { (n : Room) (ts : List Token) (x : Tree) (at : List Token) → Spells n ts x → ¬ (SyntaxAt ts at) }
     ensures deep { (n : Room) (ts : List Token) (x : Tree) (at : List Token) → Spells n ts x → ¬ (Opens n ts at) }
+{}
+
+/// A text has one answer: one tree, or one refusal.
+pub fn one_answer()
+    ensures { (text : List ℕ) (a b : Answer) → IsAnswer text a → IsAnswer text b → a ≡ b }
 {}

@@ -8,6 +8,8 @@ mod laws;
 mod parts;
 mod stage;
 
-pub use laws::{a_spelled_list_is_not_refused, every_list_is_spelled_or_refused, one_tree};
+pub use laws::{
+    a_spelled_list_is_not_refused, every_list_is_spelled_or_refused, one_answer, one_tree,
+};
 pub use parts::{Overloads, Parameters, Words};
 pub use stage::Stage;

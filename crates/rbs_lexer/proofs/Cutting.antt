@@ -7,7 +7,7 @@ use Rattle.std.proofs.lemmas.Str.{IsUtf8-nil, IsUtf8-drop, IsCharBoundary-start,
 use Rattle.std.proofs.lemmas.List.{drop-drop, drop_all, length-drop, length-take}
 use Rattle.src_text.specs.declared.span.Span.{Span}
 use Rattle.rbs_lexer.specs.declared.place.Place.{Place}
-use Rattle.rbs_lexer.specs.declared.token.Token.{Token}
+use Rattle.rbs_lexer.specs.Tokens.{Token}
 use Rattle.rbs_lexer.specs.declared.walk.Walk.{Walk}
 use Rattle.rbs_lexer.specs.declared.reading.Reading.{Reading}
 use Rattle.rbs_lexer.specs.declared.reading.Reading.TheVariants as is

@@ -13,7 +13,7 @@ use Rattle.rbs_lexer.specs.Signs.{is_operator}
 use Rattle.rbs_lexer.specs.Gaps.{is_gap, annotation}
 use Rattle.rbs_lexer.specs.Places.{has_name, takes_equals}
 use Rattle.rbs_lexer.specs.Runs.{Language, either, of_kind, behind, gap, string, symbol, sign, special, word, integer, is_symbol, variable, ordinary, is_method_name, name, reading}
-use Rattle.rbs_lexer.specs.Finds.{longer_by, longer_len, longer, found_of, gap_len, string_len, backquoted_len, operator_len, any_word_len, marked_len, numeric_len, word_behind, word_behind_two, variable_front, symbol_name_len, symbol_len, special_front, ordinary_front, method_name_len, takes_it, front_at}
+use Rattle.rbs_lexer.specs.Finds.{longer_by, longer_len, longer, found_of, gap_len, string_len, backquoted_len, operator_len, any_word_len, marked_len, numeric_len, word_behind, word_behind_two, variable_front, symbol_name_len, symbol_len, special_front, ordinary_front, method_name_len, takes_it, name_front, front_at}
 use Rattle.rbs_lexer.proofs.Finding.{Test, Finds, FindsReading, finds_or, finds_after, none_after, none_in_empty, tail_utf8, reads_either, reads_of_kind, reads_skipped, and_left, and_is, is_byte}
 use Rattle.rbs_lexer.proofs.Quoted.{string_found, backquoted_found}
 use Rattle.rbs_lexer.proofs.Skipping.{gap_found}
@@ -117,7 +117,7 @@ unfolding name
 name_found place text u = reads_of_kind k.MethodName (λ run next. is_method_name (takes_equals place next) run) text (method_name_len (takes_it place text) text) (method_name_found place text u)
 
 pub front_found : (place : Place) (text : List ℕ) → IsUtf8 text → FindsReading (reading place) text (front_at place text)
-unfolding reading front_at
+unfolding reading front_at name_front
 front_found place text u = go (has_name place)
   where
     named : Option Found

@@ -2,6 +2,7 @@ pub mod Skipping
 pub mod Fronts
 pub mod Integers
 pub mod Keywords
+pub mod Lexings
 pub mod Annotated
 pub mod Cutting
 pub mod Finding
@@ -12,4 +13,7 @@ pub mod Tables
 pub mod Values
 pub mod WordLen
 pub mod WordsFound
+pub mod Below
 pub mod FirstBytes
+pub mod PlainWords
+pub mod Whole

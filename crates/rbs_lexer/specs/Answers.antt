@@ -1,7 +1,7 @@
 -- What `tokens` answers.
 use Rattle.std.specs.Prelude.{◌≡◌, ℕ, List, Result, Ok, Err}
 use Rattle.src_text.specs.declared.span.Span.{Span}
-use Rattle.rbs_lexer.specs.declared.token.Token.{Token}
+use Rattle.rbs_lexer.specs.Tokens.{Token}
 use Rattle.rbs_lexer.specs.declared.token.BadToken.{BadToken}
 use Rattle.rbs_lexer.specs.declared.token.BadToken.TheVariants as bad
 use Rattle.rbs_lexer.specs.Lexing.{AreTokens, IsBad}

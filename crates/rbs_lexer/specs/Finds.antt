@@ -7,7 +7,7 @@ use Rattle.rbs_lexer.specs.declared.place.Place.{Place}
 use Rattle.rbs_lexer.specs.declared.reading.Reading.{Reading}
 use Rattle.rbs_lexer.specs.declared.reading.Reading.TheVariants.{Token, Skipped, Refused}
 use Rattle.rbs_lexer.specs.declared.reading.Found.{Found}
-use Rattle.rbs_lexer.specs.Bytes.{is_line_end, is_blank, begins_with_digit}
+use Rattle.rbs_lexer.specs.Bytes.{is_line_end, is_blank, is_digit, is_letter, begins_with_digit}
 use Rattle.rbs_lexer.specs.Words.{is_word_character, is_mark, word_kind}
 use Rattle.rbs_lexer.specs.Numbers.{goes_on, value_from}
 use Rattle.rbs_lexer.specs.Gaps.{closing}
@@ -24,6 +24,11 @@ abbrev pub longer_len : Option ℕ → Option ℕ → Option ℕ
 longer_len None second = second
 longer_len (Some n) None = Some n
 longer_len (Some n) (Some m) = if nat_lt n m then Some m else Some n
+
+-- whether what is so long is all of a text
+abbrev pub is_all : Option ℕ → List ℕ → Bool
+is_all None text = false
+is_all (Some len) text = len == length text
 
 -- the longer of two runs, and of two of one length the first
 abbrev pub longer : Option Found → Option Found → Option Found
@@ -44,6 +49,15 @@ word_bytes (c ∷ cs) = if is_word_character c then len_utf8 c + word_bytes cs e
 -- the same for a text
 abbrev pub word_len : List ℕ → ℕ
 word_len text = word_bytes (chars text)
+
+-- a byte of ASCII that words have: a letter, a digit or `_`
+abbrev pub is_word_byte : ℕ → Bool
+is_word_byte b = is_letter b || is_digit b
+
+-- how many bytes at the front are such
+abbrev pub plain_len : List ℕ → ℕ
+plain_len [] = 0
+plain_len (b ∷ bs) = if is_word_byte b then suc (plain_len bs) else 0
 
 -- how many bytes at the front are digits, or `_` before a digit
 abbrev pub digits_front : List ℕ → ℕ
@@ -196,6 +210,24 @@ unfoldable pub symbol_len : List ℕ → Option ℕ
 symbol_len [] = None
 symbol_len (b ∷ bs) = if b == 58 then longer_by 1 (symbol_name_len bs) else None
 
+-- whether blanks or a comment begin with the byte
+abbrev pub begins_gap : ℕ → Bool
+begins_gap b = b == 35 || is_blank b
+
+-- whether a sign begins with the byte, and nothing else does
+abbrev pub begins_sign : ℕ → Bool
+begins_sign b = b == 40 || b == 41 || b == 91 || b == 93 || b == 123 || b == 125 || b == 44 || b == 124 || b == 38 || b == 63 || b == 94 || b == 61 || b == 60 || b == 46 || b == 42
+
+-- whether a sign begins with the two bytes, and nothing else does: `->`, and `:` before another or a blank
+abbrev pub begins_sign_by : ℕ → ℕ → Bool
+begins_sign_by b c = b == 45 && c == 62 || b == 58 && (c == 58 || is_blank c)
+
+-- whether the text begins with a sign and nothing else
+abbrev pub sign_alone : List ℕ → Bool
+sign_alone [] = false
+sign_alone (b ∷ []) = begins_sign b
+sign_alone (b ∷ c ∷ bs) = begins_sign b || begins_sign_by b c
+
 -- the longest run at the front that can stand anywhere
 unfoldable pub ordinary_front : List ℕ → Option Found
 ordinary_front text = longer (skipped (gap_len text)) (longer (annotation_front text) (longer (word_front text) (longer (number_front text)
@@ -213,6 +245,10 @@ method_name_len equals text = longer_len (marked_len equals text) (longer_len (n
 abbrev pub takes_it : Place → List ℕ → Bool
 takes_it place text = takes_equals place (drop (word_len text + 1) text)
 
+-- the longest run at the front where the name of a method may stand
+unfoldable pub name_front : Place → List ℕ → Option Found
+name_front place text = longer (special_front text) (longer (found_of k.MethodName (method_name_len (takes_it place text) text)) (ordinary_front text))
+
 -- the longest run at the front at a place
 unfoldable pub front_at : Place → List ℕ → Option Found
-front_at place text = if has_name place then longer (special_front text) (longer (found_of k.MethodName (method_name_len (takes_it place text) text)) (ordinary_front text)) else ordinary_front text
+front_at place text = if has_name place then name_front place text else ordinary_front text

@@ -4,7 +4,7 @@ use Rattle.std.specs.Str.{chars}
 use Rattle.std.specs.Char.{len_utf8}
 use Rattle.src_text.specs.declared.span.Span.{Span}
 use Rattle.rbs_lexer.specs.declared.kind.Kind.{Kind}
-use Rattle.rbs_lexer.specs.declared.token.Token.{Token}
+use Rattle.rbs_lexer.specs.Tokens.{Token}
 use Rattle.rbs_lexer.specs.declared.place.Place.{Place}
 use Rattle.rbs_lexer.specs.declared.place.Place.TheVariants.{Plain}
 use Rattle.rbs_lexer.specs.declared.reading.Reading.{Reading}

@@ -3,6 +3,7 @@ pub mod Words
 pub mod Numbers
 pub mod Quotes
 pub mod Signs
+pub mod Tokens
 pub mod Gaps
 pub mod Places
 pub mod Runs

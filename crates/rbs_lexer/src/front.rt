@@ -1,59 +1,111 @@
-ghost use Rattle.std.specs.Prelude.{◌≡◌, ◌≤◌, ◌<◌, length, drop, slice_index, IfSome};
-ghost use Rattle.rbs_lexer.specs.Bytes.{first_is, is_letter};
+ghost use Rattle.std.specs.Prelude.{◌≡◌, ◌≤◌, ◌<◌, length, drop, slice_index, true, ◌||◌, IfSome};
+ghost use Rattle.rbs_lexer.specs.Bytes.{first_is};
 ghost use Rattle.rbs_lexer.specs.Finds as spec;
+ghost use Rattle.rbs_lexer.specs.Words as words;
+ghost use Rattle.rbs_lexer.specs.Signs as signs;
 
-use crate::gaps::{annotation, gap_len};
+use crate::gaps::{annotation, gap_len, is_blank};
 use crate::kind::Kind;
 use crate::numbers::{begins_with_digit, number};
 use crate::place::{Place, has_name, takes_equals};
 use crate::quotes::{backquoted_len, string_len};
 use crate::reading::{Found, longer, longer_len, of_kind, skipped};
 use crate::signs::{operator_len, sign, special_name};
-use crate::words::{any_word_len, marked_len, word, word_len};
+use crate::words::{any_word_len, begins_with_letter, marked_len, word, word_len};
 
 /// The longest run at the front of a text at a place.
-#[tactic(auto, unfolding(crate::specs::Finds::front_at))]
+#[tactic(auto, using(crate::proofs::FirstBytes::gap_anywhere), unfolding(crate::specs::Finds::front_at))]
 pub fn front(place: Place, text: &str) -> Option<Found>
     ensures { result ≡ spec.front_at place text.now }
 {
-    let found = ordinary(text);
-    if has_name(place) {
-        let found = longer(
-            of_kind(Kind::MethodName, method_name_len(place, text)),
-            found,
-        );
-        longer(special_name(text.as_bytes()), found)
+    let bytes = text.as_bytes();
+    if begins_with_gap(bytes) {
+        skipped(gap_len(bytes))
+    } else if has_name(place) {
+        name_or_other(place, text)
     } else {
-        found
+        ordinary(text)
     }
 }
 
-// The longest run that can stand anywhere. Most begin with a letter, and are words.
-#[tactic(auto, using(crate::proofs::FirstBytes::of_letter))]
+// The same where a name may stand.
+#[tactic(auto, unfolding(crate::specs::Finds::name_front))]
+fn name_or_other(place: Place, text: &str) -> Option<Found>
+    ensures { result ≡ spec.name_front place text.now }
+{
+    let found = longer(
+        of_kind(Kind::MethodName, method_name_len(place, text)),
+        ordinary(text),
+    );
+    longer(special_name(text.as_bytes()), found)
+}
+
+// The longest run that can stand anywhere. The first byte, or the first two, mostly tell that it can only be a word or a sign.
+#[tactic(auto, using(crate::proofs::FirstBytes::of_letter, crate::proofs::FirstBytes::of_sign))]
 fn ordinary(text: &str) -> Option<Found>
     ensures { result ≡ spec.ordinary_front text.now }
 {
-    if begins_with_letter(text.as_bytes()) {
+    let bytes = text.as_bytes();
+    if begins_with_letter(bytes) {
         word(text)
+    } else if is_sign_alone(bytes) {
+        sign(bytes)
     } else {
         other(text)
     }
 }
 
-// Whether the text begins with a letter of ASCII or `_`.
-fn begins_with_letter(text: &[u8]) -> bool
-    ensures { result ≡ first_is is_letter text.now }
+// Whether the text begins with a blank or a comment.
+fn begins_with_gap(text: &[u8]) -> bool
+    ensures { result ≡ first_is spec.begins_gap text.now }
 {
     match text {
-        [first, ..] => is_letter(*first),
+        [first, ..] => begins_gap(*first),
         [] => false,
     }
 }
 
-fn is_letter(byte: u8) -> bool
-    ensures { result ≡ is_letter byte }
+fn begins_gap(byte: u8) -> bool
+    ensures { result ≡ spec.begins_gap byte }
 {
-    byte >= b'a' && byte <= b'z' || byte >= b'A' && byte <= b'Z' || byte == b'_'
+    byte == b'#' || is_blank(byte)
+}
+
+// Whether the text begins with a sign, and with nothing else that may be longer.
+fn is_sign_alone(text: &[u8]) -> bool
+    ensures { result ≡ spec.sign_alone text.now }
+{
+    match text {
+        [first, second, ..] => begins_sign(*first) || begins_sign_by(*first, *second),
+        [first] => begins_sign(*first),
+        [] => false,
+    }
+}
+
+fn begins_sign(byte: u8) -> bool
+    ensures { result ≡ spec.begins_sign byte }
+{
+    byte == b'('
+        || byte == b')'
+        || byte == b'['
+        || byte == b']'
+        || byte == b'{'
+        || byte == b'}'
+        || byte == b','
+        || byte == b'|'
+        || byte == b'&'
+        || byte == b'?'
+        || byte == b'^'
+        || byte == b'='
+        || byte == b'<'
+        || byte == b'.'
+        || byte == b'*'
+}
+
+fn begins_sign_by(first: u8, second: u8) -> bool
+    ensures { result ≡ spec.begins_sign_by first second }
+{
+    first == b'-' && second == b'>' || first == b':' && (second == b':' || is_blank(second))
 }
 
 // The longest run that can stand anywhere, whatever it begins with.
@@ -173,4 +225,31 @@ fn behind_first(text: &str) -> &str
     ensures { result.now ≡ drop 1 text.now }
 {
     &text[1..]
+}
+
+/// Whether `:` and the name are read as the symbol of that name: a word, a word with a mark, or an operator.
+#[tactic(auto, using(crate::proofs::Whole::symbol_name_whole))]
+pub fn is_symbol_name(name: &str) -> bool
+    ensures { result ≡ (words.is_word name.now || (words.is_marked true name.now || signs.is_operator name.now)) }
+{
+    let found = longer_len(marked_len(name, true), operator_len(name.as_bytes()));
+    is_all(longer_len(any_word_len(name), found), name)
+}
+
+/// Whether all of a text is a word.
+#[tactic(auto, using(crate::proofs::Whole::word_whole))]
+pub fn is_word(text: &str) -> bool
+    ensures { result ≡ words.is_word text.now }
+{
+    is_all(any_word_len(text), text)
+}
+
+// Whether what is so long is all of the text.
+fn is_all(len: Option<usize>, text: &str) -> bool
+    ensures { result ≡ spec.is_all len text.now }
+{
+    match len {
+        Some(len) => len == text.len(),
+        None => false,
+    }
 }

@@ -1,7 +1,7 @@
 ghost use Rattle.std.specs.Prelude.{◌≡◌, ◌+◌, ◌<◌, ◌≤◌, ◌^◌, List, length, slice_index, chars, Option, Some, IfOk};
 ghost use Rattle.std.specs.Char.{len_utf8};
 ghost use Rattle.src_text.specs.declared.span.Span.{Span};
-ghost use Rattle.rbs_lexer.specs.declared.token.Token.{Token};
+ghost use Rattle.rbs_lexer.specs.Tokens.{Token};
 ghost use Rattle.rbs_lexer.specs.Lexing.{AreTokens, IsBad, IsLexed, span_of_first};
 ghost use Rattle.rbs_lexer.specs.Answers.{Answers, IsTokens, IsBadAt};
 
@@ -10,7 +10,7 @@ use crate::kind::Kind;
 use crate::reading::Reading;
 use crate::token::{BadToken, Lexed, Token};
 use crate::walk::{Walk, begin, past_gap, past_token};
-use src_text::{Mem, Seq, Span, Text};
+use src_text::{Mem, Seq, Span};
 use std::alloc::Global;
 
 /// The tokens of a text: at each place the longest. Whether the name of a method may stand at a place is told by the tokens
@@ -20,7 +20,7 @@ use std::alloc::Global;
 /// skipped. Where neither they nor a token begins, the text has no tokens, and the character that begins there is answered. An
 /// integer past 128 bits with a sign, a text that isn't closed by its quote, and an annotation that isn't closed are no tokens
 /// at their first character.
-pub fn tokens(alloc: Global, text: &str) -> Result<Seq<Token>, BadToken>
+pub fn tokens<'a>(alloc: Global, text: &'a str) -> Result<Seq<Token<'a>>, BadToken>
     requires { length text.now < 2 ^ 32 }
     // What is answered is so.
     ensures answers { Answers text.now result }
@@ -37,7 +37,7 @@ pub fn tokens(alloc: Global, text: &str) -> Result<Seq<Token>, BadToken>
 }
 
 /// The tokens of a text as far as it has some, and the first place where neither a token begins nor what is skipped.
-pub fn lex(alloc: Global, text: &str) -> Mem<Lexed>
+pub fn lex<'a>(alloc: Global, text: &'a str) -> Mem<Lexed<'a>>
     requires { length text.now < 2 ^ 32 }
     // What is answered is so.
     ensures answers { IfOk result (λ l. IsLexed text.now l.tokens l.bad) }
@@ -49,17 +49,24 @@ pub fn lex(alloc: Global, text: &str) -> Mem<Lexed>
     while walk.at < text.len() {
         let rest = &text[walk.at..];
         let Some(next) = front(walk.place, rest) else {
-            return Ok(cut_short(found, walk, rest));
+            return Ok(Lexed {
+                tokens: found,
+                bad: Some(first_span(walk.at, rest)),
+            });
         };
         let run = &rest[..next.len];
         match next.reading {
             Reading::Token(kind) => {
-                let met = token(alloc, walk, kind, run)?;
-                found.push(met)?;
+                found.push(token(walk, kind, run))?;
                 walk = past_token(walk, kind, run);
             }
             Reading::Skipped => walk = past_gap(walk, run),
-            Reading::Refused => return Ok(cut_short(found, walk, rest)),
+            Reading::Refused => {
+                return Ok(Lexed {
+                    tokens: found,
+                    bad: Some(first_span(walk.at, rest)),
+                });
+            }
         }
     }
     Ok(Lexed {
@@ -68,33 +75,16 @@ pub fn lex(alloc: Global, text: &str) -> Mem<Lexed>
     })
 }
 
-// The tokens before a place where none begins.
-fn cut_short(tokens: Seq<Token>, walk: Walk, rest: &str) -> Lexed
-    requires some { 0 < length rest.now }
-    requires fits { walk.at + length rest.now < 2 ^ 32 }
-    ensures tokens { result.tokens ≡ tokens }
-    ensures bad { result.bad ≡ Some (span_of_first walk.at rest.now) }
-{
-    Lexed {
-        tokens,
-        bad: Some(first_span(walk.at, rest)),
-    }
-}
-
 // The token of a run at which a walk stands.
-fn token(alloc: Global, walk: Walk, kind: Kind, run: &str) -> Mem<Token>
+fn token<'a>(walk: Walk, kind: Kind, run: &'a str) -> Token<'a>
     requires { walk.at + length run.now < 2 ^ 32 }
-    ensures { IfOk result (λ t. t ≡ record { kind = kind; text = run.now; at = record { start = walk.at; end = walk.at + length run.now }; begins_line = walk.line_ended }) }
+    ensures { result ≡ record { kind = kind; text = run.now; at = record { start = walk.at; end = walk.at + length run.now }; begins_line = walk.line_ended } }
 {
-    Ok(Token {
-        kind,
-        text: Text::from_str(alloc, run)?,
-        at: Span {
-            start: walk.at as u32,
-            end: (walk.at + run.len()) as u32,
-        },
-        begins_line: walk.line_ended,
-    })
+    let at = Span {
+        start: walk.at as u32,
+        end: (walk.at + run.len()) as u32,
+    };
+    Token::new(kind, run, at, walk.line_ended)
 }
 
 // The span of the first character of what stands behind some bytes.

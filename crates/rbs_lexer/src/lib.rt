@@ -8,6 +8,7 @@
 mod front;
 mod gaps;
 mod kind;
+mod laws;
 mod lexer;
 mod numbers;
 mod place;
@@ -18,7 +19,9 @@ mod token;
 mod walk;
 mod words;
 
+pub use front::{is_symbol_name, is_word};
 pub use kind::Kind;
+pub use laws::one_lexing;
 pub use lexer::{lex, tokens};
 pub use token::{BadToken, Lexed, Token};
 

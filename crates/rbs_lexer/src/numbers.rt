@@ -82,7 +82,8 @@ fn goes_on(byte: u8, rest: &[u8]) -> bool
     is_digit(byte) || byte == b'_' && begins_with_digit(rest)
 }
 
-fn is_digit(byte: u8) -> bool
+/// Whether the byte is a digit.
+pub fn is_digit(byte: u8) -> bool
     ensures { result ≡ bytes.is_digit byte }
 {
     byte >= b'0' && byte <= b'9'

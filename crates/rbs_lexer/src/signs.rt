@@ -1,10 +1,10 @@
 ghost use Rattle.std.specs.Prelude.{◌≡◌, map};
-ghost use Rattle.rbs_lexer.specs.Bytes.{first_is, is_blank};
+ghost use Rattle.rbs_lexer.specs.Bytes.{begins_with};
 ghost use Rattle.rbs_lexer.specs.Finds as spec;
 
-use crate::gaps::is_blank;
 use crate::kind::Kind;
 use crate::reading::{Found, longer, longer_len, of_kind};
+use crate::words::begins_with_letter;
 
 const SIGNS: [(&str, Kind); 20] = [
     ("(", Kind::LeftParen),
@@ -41,15 +41,38 @@ const OPERATORS: [&str; 27] = [
     "<<", ">>", "&", "|", "^", "~", "!", "[]", "[]=", "+@", "-@",
 ];
 
-/// The sign at the front. Before the table is searched it is asked whether a blank stands there, as it often does.
-#[tactic(auto, using(crate::proofs::FirstBytes::no_sign_at_blank))]
+/// The sign at the front. The table is searched only where the first bytes don't tell it.
+#[tactic(auto, unfolding(crate::specs::Finds::sign_front), using(crate::proofs::FirstBytes::one_colon))]
 pub fn sign(text: &[u8]) -> Option<Found>
     ensures { result ≡ spec.sign_front text.now }
 {
-    if begins_with_blank(text) {
-        None
-    } else {
-        any_sign(text)
+    match text {
+        [b'(', ..] => of_kind(Kind::LeftParen, Some(1)),
+        [b')', ..] => of_kind(Kind::RightParen, Some(1)),
+        [b'[', ..] => of_kind(Kind::LeftBracket, Some(1)),
+        [b']', ..] => of_kind(Kind::RightBracket, Some(1)),
+        [b'{', ..] => of_kind(Kind::LeftBrace, Some(1)),
+        [b'}', ..] => of_kind(Kind::RightBrace, Some(1)),
+        [b',', ..] => of_kind(Kind::Comma, Some(1)),
+        [b'|', ..] => of_kind(Kind::Bar, Some(1)),
+        [b'&', ..] => of_kind(Kind::Ampersand, Some(1)),
+        [b'?', ..] => of_kind(Kind::Question, Some(1)),
+        [b'^', ..] => of_kind(Kind::Caret, Some(1)),
+        [b'=', ..] => of_kind(Kind::Equals, Some(1)),
+        [b'<', ..] => of_kind(Kind::Less, Some(1)),
+        [b'-', b'>', ..] => of_kind(Kind::Arrow, Some(2)),
+        [b':', b':', ..] => of_kind(Kind::ColonColon, Some(2)),
+        [b':', rest @ ..] if !begins_with_colon(rest) => of_kind(Kind::Colon, Some(1)),
+        _ => any_sign(text),
+    }
+}
+
+fn begins_with_colon(text: &[u8]) -> bool
+    ensures { result ≡ begins_with 58 text.now }
+{
+    match text {
+        [b':', ..] => true,
+        _ => false,
     }
 }
 
@@ -60,16 +83,6 @@ fn any_sign(text: &[u8]) -> Option<Found>
     longest_sign(&SIGNS, text)
 }
 
-// Whether the text begins with a blank.
-fn begins_with_blank(text: &[u8]) -> bool
-    ensures { result ≡ first_is is_blank text.now }
-{
-    match text {
-        [first, ..] => is_blank(*first),
-        [] => false,
-    }
-}
-
 /// The name at the front that is a token of its own.
 #[tactic(auto, unfolding(crate::specs::Finds::special_front))]
 pub fn special_name(text: &[u8]) -> Option<Found>
@@ -78,9 +91,20 @@ pub fn special_name(text: &[u8]) -> Option<Found>
     longest_sign(&SPECIAL_NAMES, text)
 }
 
-/// How long the operator at the front is.
-#[tactic(auto, unfolding(crate::specs::Finds::operator_len))]
+/// How long the operator at the front is. Mostly the first byte tells that there is none.
+#[tactic(auto, using(crate::proofs::FirstBytes::no_operator))]
 pub fn operator_len(text: &[u8]) -> Option<usize>
+    ensures { result ≡ spec.operator_len text.now }
+{
+    if begins_with_letter(text) {
+        None
+    } else {
+        any_operator_len(text)
+    }
+}
+
+#[tactic(auto, unfolding(crate::specs::Finds::operator_len))]
+fn any_operator_len(text: &[u8]) -> Option<usize>
     ensures { result ≡ spec.operator_len text.now }
 {
     longest(&OPERATORS, text)

@@ -11,10 +11,10 @@ fn shown(alloc: Global, text: &str) -> Result<String, Fail> {
     match tokens(alloc, text) {
         Ok(found) => {
             for token in found.as_slice() {
-                let kind = token.kind;
-                let run = token.text.as_str();
+                let kind = token.kind();
+                let run = token.text();
                 out.push_str(if out.is_empty() { "" } else { ", " })?;
-                out.push_str(if token.begins_line { "^" } else { "" })?;
+                out.push_str(if token.begins_line() { "^" } else { "" })?;
                 let one = format!(in alloc; "{kind:?} {run}")?;
                 out.push_str(one.as_str())?;
             }

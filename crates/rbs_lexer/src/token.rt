@@ -1,21 +1,69 @@
-use crate::kind::Kind;
-use src_text::{NoMemory, Seq, Span, Text};
+ghost use Rattle.std.specs.Prelude.{◌≡◌};
 
-/// A token of a text.
-#[derive(Debug, Drop, PartialEq, Eq)]
-pub struct Token {
-    pub kind: Kind,
+use crate::kind::Kind;
+use src_text::{NoMemory, Seq, Span};
+use std::marker::Model;
+
+/// A token of a text, whose bytes it lends.
+#[derive(Debug, Drop)]
+pub struct Token<'a> {
+    kind: Kind,
+    text: &'a str,
+    at: Span,
+    begins_line: bool,
+}
+
+impl<'a> Model for Token<'a> {
+    ghost use Rattle.rbs_lexer.specs.Tokens.{Token as Seen};
+
+    ghost Value = { Seen };
+
+    ghost view = { λ t. record { kind = t.kind; text = t.text.now; at = t.at; begins_line = t.begins_line } };
+}
+
+impl<'a> Token<'a> {
+    pub fn new(kind: Kind, text: &'a str, at: Span, begins_line: bool) -> Token<'a>
+        ensures { result ≡ record { kind = kind; text = text.now; at = at; begins_line = begins_line } }
+    {
+        Token {
+            kind,
+            text,
+            at,
+            begins_line,
+        }
+    }
+
+    pub fn kind(&self) -> Kind
+        ensures { result ≡ self.now.kind }
+    {
+        self.kind
+    }
+
     /// The bytes, as written.
-    pub text: Text,
-    pub at: Span,
+    pub fn text(&self) -> &'a str
+        ensures { result.now ≡ self.now.text }
+    {
+        self.text
+    }
+
+    pub fn at(&self) -> Span
+        ensures { result ≡ self.now.at }
+    {
+        self.at
+    }
+
     /// Whether a line ends between the token before it, or the text's start, and the token.
-    pub begins_line: bool,
+    pub fn begins_line(&self) -> bool
+        ensures { result ≡ self.now.begins_line }
+    {
+        self.begins_line
+    }
 }
 
 /// The tokens of a text, up to its end or to the first place where none begins.
 #[derive(Debug, Drop)]
-pub struct Lexed {
-    pub tokens: Seq<Token>,
+pub struct Lexed<'a> {
+    pub tokens: Seq<Token<'a>>,
     /// The character that is in no token and isn't skipped, where there is one.
     pub bad: Option<Span>,
 }

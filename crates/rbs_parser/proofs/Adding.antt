@@ -1,7 +1,7 @@
 -- The parameters of a list, put to those before them one by one.
 use Rattle.std.proofs.Common.{◌≡◌, ◌<◌, true, false, List, [], ◌∷◌, ◌++◌, length, Option, Some, None, Ok, refl, sym, ◌∙◌, ap, append_assoc}
 use Rattle.std.proofs.lemmas.List.{append-nil}
-use Rattle.rbs_lexer.specs.declared.token.Token.{Token}
+use Rattle.rbs_lexer.specs.Tokens.{Token}
 use Rattle.rbs_tree.specs.declared.types.Param.{Param}
 use Rattle.rbs_tree.specs.declared.types.Keyword.{Keyword}
 use Rattle.rbs_grammar.specs.declared.parts.Parameters.{Parameters}

@@ -1,7 +1,7 @@
 -- What is found of a text's tokens is the text's one answer.
 use Rattle.std.proofs.Common.{◌≡◌, ℕ, List, length, Option, Result, Ok, Err, refl, sym, subst}
 use Rattle.src_text.specs.declared.span.Span.{Span}
-use Rattle.rbs_lexer.specs.declared.token.Token.{Token}
+use Rattle.rbs_lexer.specs.Tokens.{Token}
 use Rattle.rbs_lexer.specs.Lexing.{IsLexed}
 use Rattle.rbs_grammar.specs.Grammar.{Fault}
 use Rattle.rbs_grammar.specs.Parse.{Tree, parse}

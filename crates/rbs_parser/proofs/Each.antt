@@ -4,7 +4,7 @@
 -- `more found xs` is what comes of it where the items xs are still to be put to it: `more found (x ∷ xs) ≡ more (put found x) xs` and
 -- `f xs ≡ more start xs`. The invariant is `read (read_in n) rule l.fn.cursor ≡ with_each n more item l.found l.cursor`.
 use Rattle.std.proofs.Common.{◌≡◌, ◌<◌, true, false, List, [], ◌∷◌, length, Ok, Err, refl, sym, ◌∙◌, ap}
-use Rattle.rbs_lexer.specs.declared.token.Token.{Token}
+use Rattle.rbs_lexer.specs.Tokens.{Token}
 use Rattle.rbs_grammar.specs.Grammar.{Grammar, fine, empty, first, begins, Outcome, then_read, pure, read_all, read}
 use Rattle.rbs_grammar.specs.Levels.{Room, read_in}
 use Rattle.rbs_grammar.specs.Parts.{map_value, each}

@@ -1,7 +1,7 @@
 -- The loop over the fields of a record, of which a comma may end the list.
 use Rattle.std.proofs.Common.{◌≡◌, ◌<◌, true, false, if◌then◌else◌, List, [], ◌∷◌, ◌++◌, length, Option, Some, None, Ok, Err, refl, sym, ◌∙◌, ap, append_assoc}
 use Rattle.std.proofs.lemmas.List.{append-nil}
-use Rattle.rbs_lexer.specs.declared.token.Token.{Token}
+use Rattle.rbs_lexer.specs.Tokens.{Token}
 use Rattle.rbs_lexer.specs.declared.kind.Kind.TheVariants as k
 use Rattle.rbs_tree.specs.declared.types.Field.{Field}
 use Rattle.rbs_grammar.specs.declared.stage.Stage.{Stage}

@@ -1,7 +1,7 @@
 -- The next token says how the lists of members and declarations go on.
 use Rattle.std.proofs.Common.{◌≡◌, Bool, true, false, List, refl}
 use Rattle.rbs_lexer.specs.declared.kind.Kind.TheVariants as k
-use Rattle.rbs_lexer.specs.declared.token.Token.{Token}
+use Rattle.rbs_lexer.specs.Tokens.{Token}
 use Rattle.rbs_grammar.specs.Rules.{Rule, start}
 use Rattle.rbs_grammar.specs.declared.stage.Stage.{Stage}
 use Rattle.rbs_grammar.specs.Grammar.{fine, empty, first, begins}

@@ -13,7 +13,7 @@
 -- `ok` says that g is fine, `some` that it isn't empty.
 use Rattle.std.proofs.Common.{◌≡◌, ◌<◌, true, false, List, [], ◌∷◌, ◌++◌, length, Ok, Err, refl, sym, ◌∙◌, ap, append_assoc}
 use Rattle.std.proofs.lemmas.List.{append-nil}
-use Rattle.rbs_lexer.specs.declared.token.Token.{Token}
+use Rattle.rbs_lexer.specs.Tokens.{Token}
 use Rattle.rbs_lexer.specs.declared.kind.Kind.{Kind}
 use Rattle.rbs_grammar.specs.Rules.{is}
 use Rattle.rbs_grammar.specs.Grammar.{Grammar, fine, empty, first, begins, Outcome, Reader, then_read, pure, read_token, read_both, read_all, read}

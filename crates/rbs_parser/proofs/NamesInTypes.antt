@@ -1,6 +1,6 @@
 -- Names open no rule, so they are read alike wherever they stand.
 use Rattle.std.proofs.Common.{◌≡◌, List, refl}
-use Rattle.rbs_lexer.specs.declared.token.Token.{Token}
+use Rattle.rbs_lexer.specs.Tokens.{Token}
 use Rattle.rbs_grammar.specs.Grammar.{read}
 use Rattle.rbs_grammar.specs.Levels.{Room, full, read_in}
 use Rattle.rbs_grammar.specs.Names.{constants, class_name}

@@ -1,6 +1,6 @@
 -- A token that has to stand on the line of the one before it.
 use Rattle.std.proofs.Common.{◌≡◌, Bool, true, false, if◌then◌else◌, List, [], ◌∷◌, Err, refl}
-use Rattle.rbs_lexer.specs.declared.token.Token.{Token}
+use Rattle.rbs_lexer.specs.Tokens.{Token}
 use Rattle.rbs_lexer.specs.declared.kind.Kind.{Kind}
 use Rattle.rbs_grammar.specs.Rules.{Kinds, on_the_line}
 use Rattle.rbs_grammar.specs.Grammar.{syntax, begins, read_token}

@@ -1,6 +1,6 @@
 -- A rule that is opened is read by its body, and one that isn't by its next token alone.
 use Rattle.std.proofs.Common.{◌≡◌, ℕ, suc, ◌-◌, ◌<◌, if◌then◌else◌, Bool, true, false, List, Result, Err, refl, sym, ◌∙◌, ap, subst, arith}
-use Rattle.rbs_lexer.specs.declared.token.Token.{Token}
+use Rattle.rbs_lexer.specs.Tokens.{Token}
 use Rattle.rbs_grammar.specs.Rules.{Rule, Value, start}
 use Rattle.rbs_grammar.specs.Grammar.{Outcome, begins, syntax, deep, read}
 use Rattle.rbs_grammar.specs.Levels.{rooms, read_in}

@@ -1,6 +1,6 @@
 -- A reference is read as its parts are.
 use Rattle.std.proofs.Common.{◌≡◌, List, refl}
-use Rattle.rbs_lexer.specs.declared.token.Token.{Token}
+use Rattle.rbs_lexer.specs.Tokens.{Token}
 use Rattle.rbs_grammar.specs.Grammar.{read}
 use Rattle.rbs_grammar.specs.Levels.{Room, read_in}
 use Rattle.rbs_grammar.specs.Members.{ref}

@@ -7,7 +7,7 @@
 -- The answers cite `begin_stages` (before the loop and where the first item is refused), `step_stages` (behind an item and where one is
 -- refused), `end_stages` and `smaller_stages`. `ok` and `some` say that each item is fine and takes a token: refl, by stage if need be.
 use Rattle.std.proofs.Common.{◌≡◌, ◌<◌, true, false, List, [], ◌∷◌, length, Ok, Err, refl, sym, ◌∙◌, ap}
-use Rattle.rbs_lexer.specs.declared.token.Token.{Token}
+use Rattle.rbs_lexer.specs.Tokens.{Token}
 use Rattle.rbs_grammar.specs.declared.stage.Stage.{Stage}
 use Rattle.rbs_grammar.specs.Rules.{Kinds}
 use Rattle.rbs_grammar.specs.Grammar.{Grammar, chain, fine, empty, begins, Outcome, then_read, pure, read_stages, read}

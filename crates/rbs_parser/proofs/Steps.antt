@@ -1,6 +1,6 @@
 -- The turns of the loop that reads the parameters of a list.
 use Rattle.std.proofs.Common.{◌≡◌, ℕ, ◌<◌, true, List, length, Result, Ok, Err, sym, ◌∙◌, ap, subst}
-use Rattle.rbs_lexer.specs.declared.token.Token.{Token}
+use Rattle.rbs_lexer.specs.Tokens.{Token}
 use Rattle.rbs_grammar.specs.declared.parts.Parameters.{Parameters}
 use Rattle.rbs_grammar.specs.declared.stage.Stage.{Stage}
 use Rattle.rbs_grammar.specs.Grammar.{begins, then_read, Outcome, read}

@@ -1,6 +1,6 @@
 -- The variables of a method type, in which no rule opens.
 use Rattle.std.proofs.Common.{◌≡◌, true, List, refl}
-use Rattle.rbs_lexer.specs.declared.token.Token.{Token}
+use Rattle.rbs_lexer.specs.Tokens.{Token}
 use Rattle.rbs_lexer.specs.declared.kind.Kind.TheVariants as k
 use Rattle.rbs_grammar.specs.Grammar.{fine, read}
 use Rattle.rbs_grammar.specs.Levels.{Room, full, read_in}

@@ -1,6 +1,6 @@
 -- What `parse` answers.
 use Rattle.std.specs.Prelude.{◌≡◌, ℕ, List, Result, Ok, Err}
-use Rattle.rbs_lexer.specs.declared.token.Token.{Token}
+use Rattle.rbs_lexer.specs.Tokens.{Token}
 use Rattle.rbs_grammar.specs.Grammar.{Fault, syntax, deep}
 use Rattle.rbs_grammar.specs.Parse.{Tree}
 use Rattle.rbs_grammar.specs.Texts.{HasTree, IsRefused, IsTooDeep, Answer}

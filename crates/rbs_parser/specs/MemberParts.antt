@@ -1,6 +1,6 @@
 -- Parts of the rules of members and declarations that functions of their own read, and methods and attributes before their visibility is known.
 use Rattle.std.specs.Prelude.{ℕ, Bool, true, ◌||◌, List, [], ◌∷◌, ◌++◌, Option, Some, None}
-use Rattle.rbs_lexer.specs.declared.token.Token.{Token}
+use Rattle.rbs_lexer.specs.Tokens.{Token}
 use Rattle.rbs_lexer.specs.declared.kind.Kind.TheVariants as k
 use Rattle.rbs_tree.specs.declared.types.Ty.{Ty}
 use Rattle.rbs_tree.specs.declared.types.MethodType.{MethodType}

@@ -1,6 +1,6 @@
 -- The words of a name, as they are found one by one, and the sets of words that may end one.
 use Rattle.std.specs.Prelude.{ℕ, List, [], ◌∷◌, ◌++◌}
-use Rattle.rbs_lexer.specs.declared.token.Token.{Token}
+use Rattle.rbs_lexer.specs.Tokens.{Token}
 use Rattle.rbs_lexer.specs.declared.kind.Kind.TheVariants as k
 use Rattle.rbs_grammar.specs.declared.parts.Words.{Words}
 use Rattle.rbs_grammar.specs.Rules.{Kinds, is}

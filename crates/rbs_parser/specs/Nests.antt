@@ -2,7 +2,7 @@
 use Rattle.std.specs.Prelude.{ℕ, Result, List}
 use Rattle.std.specs.declared.alloc.Global.{Global}
 use denote.Ref.{MutBor}
-use Rattle.rbs_lexer.specs.declared.token.Token.{Token}
+use Rattle.rbs_lexer.specs.Tokens.{Token}
 use Rattle.rbs_parser.specs.declared.refusal.Refusal.{Refusal}
 use Rattle.rbs_grammar.specs.Rules.{Rule, Value}
 use Rattle.rbs_grammar.specs.Levels.{rooms, read_in}

@@ -1,6 +1,6 @@
 -- Parameters as the code reads them, one by one, and what a list of them makes.
 use Rattle.std.specs.Prelude.{ℕ, List, [], ◌∷◌, ◌++◌, Option, Some, None, Result, Ok, Err}
-use Rattle.rbs_lexer.specs.declared.token.Token.{Token}
+use Rattle.rbs_lexer.specs.Tokens.{Token}
 use Rattle.rbs_lexer.specs.declared.kind.Kind.TheVariants as k
 use Rattle.rbs_tree.specs.declared.types.Param.{Param}
 use Rattle.rbs_grammar.specs.declared.parts.Parameters.{Parameters}

@@ -1,6 +1,6 @@
 -- A place in a list of tokens, and what a function that reads ensures.
 use Rattle.std.specs.Prelude.{◌≡◌, ℕ, if◌then◌else◌, List, [], ◌∷◌, Option, Some, None, Result, Ok, Err}
-use Rattle.rbs_lexer.specs.declared.token.Token.{Token}
+use Rattle.rbs_lexer.specs.Tokens.{Token}
 use Rattle.rbs_lexer.specs.declared.kind.Kind.{Kind}
 use Rattle.rbs_grammar.specs.Rules.{Kinds}
 use Rattle.rbs_grammar.specs.Grammar.{Grammar, begins, Outcome, syntax, deep, read}

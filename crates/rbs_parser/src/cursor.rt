@@ -13,12 +13,12 @@ use std::marker::Model;
 /// A place in a list of tokens. Contracts see it as the tokens from there on.
 #[derive(Drop)]
 pub struct Cursor<'a> {
-    rest: &'a [Token],
+    rest: &'a [Token<'a>],
 }
 
 impl<'a> Model for Cursor<'a> {
     ghost use Rattle.std.specs.Prelude.{List};
-    ghost use Rattle.rbs_lexer.specs.declared.token.Token.{Token};
+    ghost use Rattle.rbs_lexer.specs.Tokens.{Token};
 
     ghost Value = { List Token };
 
@@ -27,14 +27,14 @@ impl<'a> Model for Cursor<'a> {
 
 impl<'a> Cursor<'a> {
     /// At the first of the tokens.
-    pub fn new(tokens: &'a [Token]) -> Cursor<'a>
+    pub fn new(tokens: &'a [Token<'a>]) -> Cursor<'a>
         ensures { result ≡ tokens.now }
     {
         Cursor { rest: tokens }
     }
 
     /// The tokens from here on.
-    pub fn rest(&self) -> &'a [Token]
+    pub fn rest(&self) -> &'a [Token<'a>]
         ensures { result.now ≡ self.now }
     {
         self.rest
@@ -53,7 +53,7 @@ impl<'a> Cursor<'a> {
     {
         match self.rest {
             [] => None,
-            [next, ..] => Some(next.kind),
+            [next, ..] => Some(next.kind()),
         }
     }
 
@@ -63,7 +63,7 @@ impl<'a> Cursor<'a> {
     {
         match self.rest {
             [] => false,
-            [next, ..] => set.has(next.kind),
+            [next, ..] => set.has(next.kind()),
         }
     }
 
@@ -73,7 +73,7 @@ impl<'a> Cursor<'a> {
     {
         match self.rest {
             [] => false,
-            [next, ..] => !next.begins_line && set.has(next.kind),
+            [next, ..] => !next.begins_line() && set.has(next.kind()),
         }
     }
 
@@ -83,7 +83,7 @@ impl<'a> Cursor<'a> {
     {
         match self.rest {
             [] => false,
-            [next, rest @ ..] => first.has(next.kind) && Cursor { rest }.sees(second),
+            [next, rest @ ..] => first.has(next.kind()) && Cursor { rest }.sees(second),
         }
     }
 
@@ -94,7 +94,7 @@ impl<'a> Cursor<'a> {
         ensures after { self.new ≡ spec.after (tokens_of set) self.old }
     {
         match self.rest {
-            [next, rest @ ..] if set.has(next.kind) => {
+            [next, rest @ ..] if set.has(next.kind()) => {
                 self.rest = rest;
                 true
             }
@@ -103,11 +103,11 @@ impl<'a> Cursor<'a> {
     }
 
     /// The next token, which has to be in the set.
-    pub fn expect(&mut self, set: Set) -> Result<&'a Token, Refusal>
+    pub fn expect(&mut self, set: Set) -> Result<&'a Token<'a>, Refusal>
         ensures { Reads (λ t. t.now) (read_token (tokens_of set) same self.old) result self.new }
     {
         match self.rest {
-            [next, rest @ ..] if set.has(next.kind) => {
+            [next, rest @ ..] if set.has(next.kind()) => {
                 self.rest = rest;
                 Ok(next)
             }

@@ -37,7 +37,7 @@ impl Room {
     }
 
     #[tactic(auto, unfolding(crate::specs::MemberParts::variance))]
-    fn variance<'a>(&self, cursor: &mut Cursor<'a>) -> Result<Option<&'a Token>, Refusal>
+    fn variance<'a>(&self, cursor: &mut Cursor<'a>) -> Result<Option<&'a Token<'a>>, Refusal>
         ensures { Reads (λ word. option_copied word) (read (read_in (rooms self.now.marked self.now.functions)) parts.variance cursor.old) result cursor.new }
     {
         if !cursor.sees(Set::Variance) {
@@ -54,7 +54,7 @@ impl Room {
         let unchecked = self.unchecked(cursor)?;
         let word = self.variance(cursor)?;
         let name = cursor.expect(Set::One(Kind::Constant))?;
-        Ok(type_param_of(unchecked, word, name)?)
+        Ok(type_param_of(self.alloc, unchecked, word, name)?)
     }
 
     fn type_param_list(&self, cursor: &mut Cursor<'_>) -> Result<Seq<TypeParam>, Refusal>
@@ -185,8 +185,8 @@ impl Room {
         cursor.expect(Set::One(Kind::Colon))?;
         let ty = self.a_type(cursor)?;
         Ok(Decl::Global {
-            name: text_of(name)?,
-            at: name.at,
+            name: text_of(self.alloc, name)?,
+            at: name.at(),
             ty,
         })
     }
@@ -209,19 +209,24 @@ impl Room {
     }
 }
 
-fn type_param_of(unchecked: bool, word: Option<&Token>, name: &Token) -> Mem<TypeParam>
+fn type_param_of(
+    alloc: Global,
+    unchecked: bool,
+    word: Option<&Token<'_>>,
+    name: &Token<'_>,
+) -> Mem<TypeParam>
     ensures { IfOk result (λ p. p ≡ spec.type_param_of unchecked (option_copied word.entry, name.now)) }
 {
     Ok(TypeParam {
-        name: text_of(name)?,
-        at: name.at,
+        name: text_of(alloc, name)?,
+        at: name.at(),
         unchecked,
         sign: sign_of(word),
         bound: None,
     })
 }
 
-fn sign_of(word: Option<&Token>) -> Sign
+fn sign_of(word: Option<&Token<'_>>) -> Sign
     ensures { result ≡ spec.sign_of (option_copied word.entry) }
 {
     match word {
@@ -230,10 +235,10 @@ fn sign_of(word: Option<&Token>) -> Sign
     }
 }
 
-fn sign_of_word(word: &Token) -> Sign
+fn sign_of_word(word: &Token<'_>) -> Sign
     ensures { result ≡ spec.sign_of (Some word.now) }
 {
-    match word.kind {
+    match word.kind() {
         Kind::Out => Sign::Covariant,
         _ => Sign::Contravariant,
     }

@@ -13,6 +13,7 @@ ghost use Rattle.rbs_parser.specs.Parameters.{small_name, variable_name, given_a
 ghost use Rattle.rbs_parser.specs.declared.functions.Parameter.TheVariants as parameter;
 ghost use Rattle.rbs_parser.specs.declared.refusal.Refusal.TheVariants as refusal;
 
+use crate::lists::push;
 use crate::types::{Types, begins_type};
 use crate::{Cursor, Refusal, Set};
 use rbs_grammar::{Parameters, Stage};
@@ -49,7 +50,7 @@ fn small_name(alloc: Global, cursor: &mut Cursor<'_>) -> Result<Option<Text>, Re
         return Ok(None);
     }
     let name = cursor.expect(Set::Small)?;
-    Ok(Some(Text::from_str(alloc, name.text.as_str())?))
+    Ok(Some(Text::from_str(alloc, name.text())?))
 }
 
 /// Whether there is a `?`, which is then taken.
@@ -78,19 +79,19 @@ fn no_params(alloc: Global) -> Parameters
 
 /// One more parameter behind the others.
 #[tactic(auto, unfolding(crate::specs::Parameters::added, crate::specs::Parameters::given_as))]
-fn add(all: &mut Parameters, next: Parameter) -> Mem<()>
+fn add(alloc: Global, all: &mut Parameters, next: Parameter) -> Mem<()>
     ensures { OnOk result (all.new ≡ added all.old (given_as next)) }
 {
     match next {
-        Parameter::Required(param) => all.required.push(param)?,
-        Parameter::OptionalOne(param) => all.optional.push(param)?,
+        Parameter::Required(param) => push(alloc, &mut all.required, param)?,
+        Parameter::OptionalOne(param) => push(alloc, &mut all.optional, param)?,
         Parameter::Rest(param) => {
             if all.rest.is_none() {
                 all.rest = Some(param);
             }
         }
-        Parameter::Trailing(param) => all.trailing.push(param)?,
-        Parameter::Keyword(keyword) => all.keywords.push(keyword)?,
+        Parameter::Trailing(param) => push(alloc, &mut all.trailing, param)?,
+        Parameter::Keyword(keyword) => push(alloc, &mut all.keywords, keyword)?,
         Parameter::RestKeywords(param) => {
             if all.rest_keywords.is_none() {
                 all.rest_keywords = Some(param);
@@ -101,10 +102,10 @@ fn add(all: &mut Parameters, next: Parameter) -> Mem<()>
 }
 
 /// The parameters with one more behind them.
-fn with_param(mut all: Parameters, next: Parameter) -> Mem<Parameters>
+fn with_param(alloc: Global, mut all: Parameters, next: Parameter) -> Mem<Parameters>
     ensures { IfOk result (λ r. r ≡ added all (given_as next)) }
 {
-    let put = add(&mut all, next);
+    let put = add(alloc, &mut all, next);
     match put {
         Ok(()) => Ok(all),
         Err(full) => {
@@ -216,7 +217,7 @@ impl<
         let word = cursor.expect(Set::Word)?;
         cursor.expect(Set::One(Kind::Colon))?;
         let param = self.param(cursor)?;
-        let key = Text::from_str(self.alloc, word.text.as_str())?;
+        let key = Text::from_str(self.alloc, word.text())?;
         Ok((keyword_of(key, required, param), Stage::Keyword))
     }
 
@@ -381,12 +382,12 @@ impl<
         ensures { ReadsIn self.now.marked self.now.functions spec.params cursor.old result cursor.new }
     {
         let (first, start) = self.first_param(cursor)?;
-        let mut all = with_param(no_params(self.alloc), first)?;
+        let mut all = with_param(self.alloc, no_params(self.alloc), first)?;
         let mut stage = start;
         'items: while leads(cursor, stage) {
             let found = self.next_param(cursor, stage);
             let (held, (next, behind)) = both(all, found)?;
-            all = with_param(held, next)?;
+            all = with_param(self.alloc, held, next)?;
             stage = behind;
         }
         Ok(all)
@@ -574,7 +575,7 @@ fn variable_name(alloc: Global, cursor: &mut Cursor<'_>) -> Result<Text, Refusal
     ensures { ReadsPlain variable_name cursor.old result cursor.new }
 {
     let name = cursor.expect(Set::One(Kind::Constant))?;
-    Ok(Text::from_str(alloc, name.text.as_str())?)
+    Ok(Text::from_str(alloc, name.text())?)
 }
 
 fn variable_names(alloc: Global, cursor: &mut Cursor<'_>) -> Result<Seq<Text>, Refusal>
@@ -582,7 +583,7 @@ fn variable_names(alloc: Global, cursor: &mut Cursor<'_>) -> Result<Seq<Text>, R
 {
     let mut all = Seq::new(alloc);
     let first = variable_name(alloc, cursor)?;
-    all.push(first)?;
+    push(alloc, &mut all, first)?;
     'items: while cursor.eat(Set::One(Kind::Comma)) {
         let next = variable_name(alloc, cursor)?;
         all.push(next)?;
@@ -626,31 +627,11 @@ fn opened_function(
 }
 
 /// The function with these type variables.
-fn with_variables(variables: Seq<Text>, fun: MethodType) -> MethodType
+fn with_variables(variables: Seq<Text>, mut fun: MethodType) -> MethodType
     ensures { result ≡ spec.with_variables variables fun }
 {
-    let MethodType {
-        vars: _,
-        required,
-        optional,
-        rest,
-        trailing,
-        keywords,
-        rest_keywords,
-        block,
-        result,
-    } = fun;
-    MethodType {
-        vars: variables,
-        required,
-        optional,
-        rest,
-        trailing,
-        keywords,
-        rest_keywords,
-        block,
-        result,
-    }
+    fun.vars = variables;
+    fun
 }
 
 /// A method type, where so many marked rules and so many functions may still be opened.

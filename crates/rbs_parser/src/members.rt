@@ -13,6 +13,7 @@ ghost use Rattle.rbs_parser.specs.Reading.{Reads, ReadsIn};
 ghost use Rattle.rbs_parser.specs.Sets.{tokens_of};
 
 use crate::functions::{function, method_type, ty};
+use crate::lists::push;
 use crate::names::{alias_name, class_name, interface_name, module_name};
 use crate::types::{Types, text_of};
 use crate::values::method_name_value;
@@ -217,7 +218,7 @@ impl Room {
     }
 
     #[tactic(auto, unfolding(crate::specs::MemberParts::name_but_self))]
-    fn name_but_self<'a>(&self, cursor: &mut Cursor<'a>) -> Result<&'a Token, Refusal>
+    fn name_but_self<'a>(&self, cursor: &mut Cursor<'a>) -> Result<&'a Token<'a>, Refusal>
         ensures { Reads (λ t. t.now) (read (read_in (rooms self.now.marked self.now.functions)) parts.name_but_self cursor.old) result cursor.new }
     {
         if cursor.sees(Set::One(Kind::SelfQuestion)) {
@@ -235,7 +236,7 @@ impl Room {
             let name = cursor.expect(Set::One(Kind::InstanceVariable))?;
             cursor.expect(Set::One(Kind::Colon))?;
             let ty = self.a_type(cursor)?;
-            return Ok(variable_of(VarScope::Instance, name, ty)?);
+            return Ok(variable_of(self.alloc, VarScope::Instance, name, ty)?);
         }
         if cursor.sees(Set::One(Kind::SelfWord)) {
             cursor.expect(Set::One(Kind::SelfWord))?;
@@ -243,17 +244,17 @@ impl Room {
             let name = cursor.expect(Set::One(Kind::InstanceVariable))?;
             cursor.expect(Set::One(Kind::Colon))?;
             let ty = self.a_type(cursor)?;
-            return Ok(variable_of(VarScope::Singleton, name, ty)?);
+            return Ok(variable_of(self.alloc, VarScope::Singleton, name, ty)?);
         }
         let name = cursor.expect(Set::One(Kind::ClassVariable))?;
         cursor.expect(Set::One(Kind::Colon))?;
         let ty = self.a_type(cursor)?;
-        Ok(variable_of(VarScope::Class, name, ty)?)
+        Ok(variable_of(self.alloc, VarScope::Class, name, ty)?)
     }
 
     /// The name behind `self.`, or `self` as a name.
     #[tactic(auto, unfolding(crate::specs::MemberParts::name_of_self))]
-    fn name_of_self<'a>(&self, cursor: &mut Cursor<'a>) -> Result<(Side, &'a Token), Refusal>
+    fn name_of_self<'a>(&self, cursor: &mut Cursor<'a>) -> Result<(Side, &'a Token<'a>), Refusal>
         ensures { Reads (λ p. (p.0, p.1.now)) (read (read_in (rooms self.now.marked self.now.functions)) parts.name_of_self cursor.old) result cursor.new }
     {
         let word = cursor.expect(Set::One(Kind::SelfWord))?;
@@ -267,7 +268,7 @@ impl Room {
 
     /// The name behind `self?.`, or `self?` as a name.
     #[tactic(auto, unfolding(crate::specs::MemberParts::name_of_both))]
-    fn name_of_both<'a>(&self, cursor: &mut Cursor<'a>) -> Result<(Side, &'a Token), Refusal>
+    fn name_of_both<'a>(&self, cursor: &mut Cursor<'a>) -> Result<(Side, &'a Token<'a>), Refusal>
         ensures { Reads (λ p. (p.0, p.1.now)) (read (read_in (rooms self.now.marked self.now.functions)) parts.name_of_both cursor.old) result cursor.new }
     {
         let word = cursor.expect(Set::One(Kind::SelfQuestion))?;
@@ -280,7 +281,7 @@ impl Room {
     }
 
     #[tactic(auto, unfolding(rbs_grammar::specs::Members::attribute_name, crate::specs::MemberParts::name_of_self, crate::specs::MemberParts::name_but_self))]
-    fn attribute_name<'a>(&self, cursor: &mut Cursor<'a>) -> Result<(Side, &'a Token), Refusal>
+    fn attribute_name<'a>(&self, cursor: &mut Cursor<'a>) -> Result<(Side, &'a Token<'a>), Refusal>
         ensures { Reads (λ p. (p.0, p.1.now)) (read (read_in (rooms self.now.marked self.now.functions)) spec.attribute_name cursor.old) result cursor.new }
     {
         if cursor.sees(Set::One(Kind::SelfWord)) {
@@ -291,7 +292,7 @@ impl Room {
     }
 
     #[tactic(auto, unfolding(rbs_grammar::specs::Members::defined_name, crate::specs::MemberParts::name_of_self, crate::specs::MemberParts::name_of_both))]
-    fn defined_name<'a>(&self, cursor: &mut Cursor<'a>) -> Result<(Side, &'a Token), Refusal>
+    fn defined_name<'a>(&self, cursor: &mut Cursor<'a>) -> Result<(Side, &'a Token<'a>), Refusal>
         ensures { Reads (λ p. (p.0, p.1.now)) (read (read_in (rooms self.now.marked self.now.functions)) spec.defined_name cursor.old) result cursor.new }
     {
         if cursor.sees(Set::One(Kind::SelfWord)) {
@@ -312,11 +313,11 @@ impl Room {
             methods: Seq::new(self.alloc),
             more: false,
         };
-        push_overload(&mut found, Some(first))?;
+        push_overload(self.alloc, &mut found, Some(first))?;
         let mut stage = Stage::Open;
         'items: while goes_on(cursor, stage) {
             let next = self.next_overload(cursor)?;
-            push_overload(&mut found, next.0)?;
+            push_overload(self.alloc, &mut found, next.0)?;
             stage = next.1;
         }
         Ok(found)
@@ -366,7 +367,7 @@ impl Room {
             return Ok(None);
         }
         let name = cursor.expect(Set::One(Kind::InstanceVariable))?;
-        Ok(Some(text_of(name)?))
+        Ok(Some(text_of(self.alloc, name)?))
     }
 
     #[tactic(auto, unfolding(rbs_grammar::specs::Members::bracketed_variable, crate::specs::MemberParts::variable_name))]
@@ -395,7 +396,7 @@ impl Room {
     fn attribute_parts<'a>(
         &self,
         cursor: &mut Cursor<'a>,
-    ) -> Result<((Side, &'a Token), (AttrVar, Ty)), Refusal>
+    ) -> Result<((Side, &'a Token<'a>), (AttrVar, Ty)), Refusal>
         ensures { Reads (λ p. ((p.0.0, p.0.1.now), p.1)) (read (read_in (rooms self.now.marked self.now.functions)) parts.attribute_parts cursor.old) result cursor.new }
     {
         let name = self.attribute_name(cursor)?;
@@ -548,7 +549,7 @@ impl Room {
 
 /// The next token, which has to be in the set and to stand on the line of the token before it.
 #[tactic(auto, using(crate::proofs::OnLine::on_line_read, crate::proofs::OnLine::not_read))]
-fn expect_on_line<'a>(cursor: &mut Cursor<'a>, set: Set) -> Result<&'a Token, Refusal>
+fn expect_on_line<'a>(cursor: &mut Cursor<'a>, set: Set) -> Result<&'a Token<'a>, Refusal>
     ensures { Reads (λ t. t.now) (read_token (on_the_line (tokens_of set)) same cursor.old) result cursor.new }
 {
     if !cursor.sees_on_line(set) {
@@ -564,7 +565,7 @@ fn begins_shown(cursor: &Cursor<'_>) -> bool
 {
     match cursor.rest() {
         [] => false,
-        [next, ..] => !next.begins_line && begins_visible(next.kind),
+        [next, ..] => !next.begins_line() && begins_visible(next.kind()),
     }
 }
 
@@ -601,7 +602,7 @@ fn goes_on(cursor: &Cursor<'_>, stage: Stage) -> bool
     }
 }
 
-fn push_overload(found: &mut Overloads, item: Option<MethodType>) -> Mem<()>
+fn push_overload(alloc: Global, found: &mut Overloads, item: Option<MethodType>) -> Mem<()>
     ensures { OnOk result (found.new ≡ parts.one_overload found.old item) }
 {
     match item {
@@ -609,7 +610,7 @@ fn push_overload(found: &mut Overloads, item: Option<MethodType>) -> Mem<()>
             found.more = true;
             Ok(())
         }
-        Some(method) => found.methods.push(method),
+        Some(method) => push(alloc, &mut found.methods, method),
     }
 }
 
@@ -624,8 +625,8 @@ fn in_brackets(name: Option<Text>) -> AttrVar
 
 fn attribute_of(
     alloc: Global,
-    word: &Token,
-    name: (Side, &Token),
+    word: &Token<'_>,
+    name: (Side, &Token<'_>),
     end: (AttrVar, Ty),
 ) -> Mem<Visible>
     ensures { IfOk result (λ v. parts.visible v ≡ spec.attribute_of word.now ((name.entry.0, name.entry.1.now), end)) }
@@ -633,11 +634,11 @@ fn attribute_of(
     let (side, name) = name;
     let (variable, ty) = end;
     Ok(Visible::Attribute {
-        name: method_name_value(alloc, name.text.as_str())?,
-        at: name.at,
+        name: method_name_value(alloc, name.text())?,
+        at: name.at(),
         side,
-        reads: reads(word.kind),
-        writes: writes(word.kind),
+        reads: reads(word.kind()),
+        writes: writes(word.kind()),
         variable,
         ty,
     })
@@ -679,21 +680,21 @@ fn visibility_member(word: Kind) -> Member
     }
 }
 
-fn visible_of(word: &Token, member: Option<Visible>) -> Member
+fn visible_of(word: &Token<'_>, member: Option<Visible>) -> Member
     ensures { result ≡ spec.visible_of word.now (option_map parts.visible member) }
 {
     match member {
-        None => visibility_member(word.kind),
-        Some(member) => member.member(Some(is_public(word.kind))),
+        None => visibility_member(word.kind()),
+        Some(member) => member.member(Some(is_public(word.kind()))),
     }
 }
 
-fn plain_method(alloc: Global, name: &Token, methods: Seq<MethodType>) -> Mem<Member>
+fn plain_method(alloc: Global, name: &Token<'_>, methods: Seq<MethodType>) -> Mem<Member>
     ensures { IfOk result (λ member. member ≡ spec.plain_method name.now methods) }
 {
     Ok(Member::Def {
-        name: method_name_value(alloc, name.text.as_str())?,
-        at: name.at,
+        name: method_name_value(alloc, name.text())?,
+        at: name.at(),
         side: Side::Instance,
         public: None,
         overloads: methods,
@@ -701,43 +702,43 @@ fn plain_method(alloc: Global, name: &Token, methods: Seq<MethodType>) -> Mem<Me
     })
 }
 
-fn method_of(alloc: Global, side: Side, name: &Token, overloads: Overloads) -> Mem<Visible>
+fn method_of(alloc: Global, side: Side, name: &Token<'_>, overloads: Overloads) -> Mem<Visible>
     ensures { IfOk result (λ v. parts.visible v ≡ spec.visible_method (side, name.now) overloads) }
 {
     Ok(Visible::Method {
-        name: method_name_value(alloc, name.text.as_str())?,
-        at: name.at,
+        name: method_name_value(alloc, name.text())?,
+        at: name.at(),
         side,
         overloads,
     })
 }
 
-fn alias_of(alloc: Global, side: Side, new: &Token, old: &Token) -> Mem<Member>
+fn alias_of(alloc: Global, side: Side, new: &Token<'_>, old: &Token<'_>) -> Mem<Member>
     ensures { IfOk result (λ member. member ≡ spec.alias_of side new.now old.now) }
 {
     Ok(Member::AliasOf {
-        new_name: method_name_value(alloc, new.text.as_str())?,
-        at: new.at,
-        old_name: method_name_value(alloc, old.text.as_str())?,
+        new_name: method_name_value(alloc, new.text())?,
+        at: new.at(),
+        old_name: method_name_value(alloc, old.text())?,
         side,
     })
 }
 
-fn variable_of(scope: VarScope, name: &Token, ty: Ty) -> Mem<Member>
+fn variable_of(alloc: Global, scope: VarScope, name: &Token<'_>, ty: Ty) -> Mem<Member>
     ensures { IfOk result (λ member. member ≡ spec.variable_of scope name.now ty) }
 {
     Ok(Member::Variable {
-        name: text_of(name)?,
-        at: name.at,
+        name: text_of(alloc, name)?,
+        at: name.at(),
         scope,
         ty,
     })
 }
 
-fn mixin_of(word: &Token, reference: Ref) -> Member
+fn mixin_of(word: &Token<'_>, reference: Ref) -> Member
     ensures { result ≡ spec.mixin_of word.now reference }
 {
-    match word.kind {
+    match word.kind() {
         Kind::Include => Member::Include(reference),
         Kind::Extend => Member::Extend(reference),
         _ => Member::Prepend(reference),

@@ -13,6 +13,8 @@ ghost use Rattle.rbs_parser.specs.Sets.{tokens_of};
 ghost use Rattle.rbs_parser.specs.NameWords.{one_more, ends_of, outer_words, outer_part, words_by};
 ghost use Rattle.rbs_parser.specs.Reading.{Reads, ReadsPlain};
 
+use crate::lists::push;
+use crate::types::text_of;
 use crate::{Cursor, Refusal, Set};
 use rbs_grammar::{Stage, Words};
 use rbs_lexer::{Kind, Token};
@@ -107,7 +109,7 @@ fn module_words(alloc: Global, cursor: &mut Cursor<'_>) -> Result<Words, Refusal
 }
 
 // The `::` that may stand before a name.
-fn leading<'a>(cursor: &mut Cursor<'a>) -> Result<Option<&'a Token>, Refusal>
+fn leading<'a>(cursor: &mut Cursor<'a>) -> Result<Option<&'a Token<'a>>, Refusal>
     ensures { Reads option_copied (read (read_in full) spec.leading cursor.old) result cursor.new }
 {
     if cursor.sees(Set::One(Kind::ColonColon)) {
@@ -119,7 +121,7 @@ fn leading<'a>(cursor: &mut Cursor<'a>) -> Result<Option<&'a Token>, Refusal>
 }
 
 // The name of words, with a leading `::` or without.
-fn name_of(colons: Option<&Token>, words: Words) -> TypeName
+fn name_of(colons: Option<&Token<'_>>, words: Words) -> TypeName
     ensures { result ≡ spec.name_of (option_copied colons.entry) words }
 {
     match colons {
@@ -140,14 +142,14 @@ pub fn relative_name(words: Words) -> TypeName
 }
 
 /// The name of words behind a leading `::`.
-pub fn absolute_name(colons: &Token, words: Words) -> TypeName
+pub fn absolute_name(colons: &Token<'_>, words: Words) -> TypeName
     ensures { result ≡ spec.absolute_name colons.now words }
 {
     TypeName {
         absolute: true,
         path: words.path,
         at: Span {
-            start: colons.at.start,
+            start: colons.at().start,
             end: words.at.end,
         },
     }
@@ -165,16 +167,16 @@ fn no_words(alloc: Global) -> Words
     }
 }
 
-fn push(words: &mut Words, word: &Token) -> Mem<()>
+fn push_word(alloc: Global, words: &mut Words, word: &Token<'_>) -> Mem<()>
     ensures { OnOk result (words.new ≡ one_more words.old word.now) }
 {
-    let text = word.text.clone()?;
+    let text = text_of(alloc, word)?;
     if words.path.is_empty() {
-        words.at.start = word.at.start;
+        words.at.start = word.at().start;
     }
-    words.at.end = word.at.end;
-    words.last = word.kind;
-    words.path.push(text)
+    words.at.end = word.at().end;
+    words.last = word.kind();
+    push(alloc, &mut words.path, text)
 }
 
 // Constants with `::` between them.
@@ -183,22 +185,22 @@ fn constants(alloc: Global, cursor: &mut Cursor<'_>) -> Result<Words, Refusal>
 {
     let first = constant(cursor)?;
     let mut words = no_words(alloc);
-    push(&mut words, first)?;
-    while cursor.sees(Set::One(Kind::ColonColon)) {
+    push_word(alloc, &mut words, first)?;
+    'items: while cursor.sees(Set::One(Kind::ColonColon)) {
         let next = constant_part(cursor)?;
-        push(&mut words, next)?;
+        push_word(alloc, &mut words, next)?;
     }
     Ok(words)
 }
 
 #[tactic(auto, using(crate::proofs::Tokens::token_by))]
-fn constant<'a>(cursor: &mut Cursor<'a>) -> Result<&'a Token, Refusal>
+fn constant<'a>(cursor: &mut Cursor<'a>) -> Result<&'a Token<'a>, Refusal>
     ensures { Reads (λ word. (word.now, at.Open)) (read_token (rules.is k.Constant) (spec.and_stage at.Open) cursor.old) result cursor.new }
 {
     cursor.expect(Set::One(Kind::Constant))
 }
 
-fn constant_part<'a>(cursor: &mut Cursor<'a>) -> Result<&'a Token, Refusal>
+fn constant_part<'a>(cursor: &mut Cursor<'a>) -> Result<&'a Token<'a>, Refusal>
     ensures { Reads (λ word. (word.now, at.Open)) (read (read_in full) (spec.constant_part at.Open) cursor.old) result cursor.new }
 {
     cursor.expect(Set::One(Kind::ColonColon))?;
@@ -211,7 +213,7 @@ fn words_to(alloc: Global, cursor: &mut Cursor<'_>, last: Set) -> Result<Words, 
 {
     let mut words = outer_words(alloc, cursor)?;
     let word = cursor.expect(last)?;
-    push(&mut words, word)?;
+    push_word(alloc, &mut words, word)?;
     Ok(words)
 }
 
@@ -219,14 +221,14 @@ fn outer_words(alloc: Global, cursor: &mut Cursor<'_>) -> Result<Words, Refusal>
     ensures { ReadsPlain outer_words cursor.old result cursor.new }
 {
     let mut words = no_words(alloc);
-    while cursor.sees(Set::One(Kind::Constant)) {
+    'items: while cursor.sees(Set::One(Kind::Constant)) {
         let next = outer_part(cursor)?;
-        push(&mut words, next)?;
+        push_word(alloc, &mut words, next)?;
     }
     Ok(words)
 }
 
-fn outer_part<'a>(cursor: &mut Cursor<'a>) -> Result<&'a Token, Refusal>
+fn outer_part<'a>(cursor: &mut Cursor<'a>) -> Result<&'a Token<'a>, Refusal>
     ensures { Reads (λ word. word.now) (read (read_in full) outer_part cursor.old) result cursor.new }
 {
     let word = cursor.expect(Set::One(Kind::Constant))?;
@@ -240,10 +242,10 @@ fn words(alloc: Global, cursor: &mut Cursor<'_>, lone: Ends, ends: Ends) -> Resu
 {
     let (first, mut stage) = last_word(cursor, lone)?;
     let mut words = no_words(alloc);
-    push(&mut words, first)?;
-    while goes_on(cursor, stage) {
+    push_word(alloc, &mut words, first)?;
+    'items: while goes_on(cursor, stage) {
         let (next, after) = name_part(cursor, ends)?;
-        push(&mut words, next)?;
+        push_word(alloc, &mut words, next)?;
         stage = after;
     }
     Ok(words)
@@ -259,7 +261,7 @@ fn goes_on(cursor: &Cursor<'_>, stage: Stage) -> bool
     }
 }
 
-fn name_part<'a>(cursor: &mut Cursor<'a>, ends: Ends) -> Result<(&'a Token, Stage), Refusal>
+fn name_part<'a>(cursor: &mut Cursor<'a>, ends: Ends) -> Result<(&'a Token<'a>, Stage), Refusal>
     ensures { (stage : Stage) → Reads (λ part. (part.0.now, part.1)) (read (read_in full) (spec.name_part (ends_of ends) stage) cursor.old) result cursor.new }
 {
     cursor.expect(Set::One(Kind::ColonColon))?;
@@ -267,7 +269,7 @@ fn name_part<'a>(cursor: &mut Cursor<'a>, ends: Ends) -> Result<(&'a Token, Stag
 }
 
 // A constant, behind which a name may go on, or a word that ends one.
-fn last_word<'a>(cursor: &mut Cursor<'a>, ends: Ends) -> Result<(&'a Token, Stage), Refusal>
+fn last_word<'a>(cursor: &mut Cursor<'a>, ends: Ends) -> Result<(&'a Token<'a>, Stage), Refusal>
     ensures { Reads (λ part. (part.0.now, part.1)) (read (read_in full) (spec.last_word (ends_of ends)) cursor.old) result cursor.new }
 {
     if cursor.sees(Set::One(Kind::Constant)) {
@@ -280,7 +282,7 @@ fn last_word<'a>(cursor: &mut Cursor<'a>, ends: Ends) -> Result<(&'a Token, Stag
 }
 
 #[tactic(auto, using(crate::proofs::Tokens::token_by))]
-fn end_word<'a>(cursor: &mut Cursor<'a>, ends: Ends) -> Result<&'a Token, Refusal>
+fn end_word<'a>(cursor: &mut Cursor<'a>, ends: Ends) -> Result<&'a Token<'a>, Refusal>
     ensures { Reads (λ word. (word.now, at.Done)) (read_token (ends_of ends) (spec.and_stage at.Done) cursor.old) result cursor.new }
 {
     match cursor.kind() {

@@ -7,6 +7,7 @@ ghost use Rattle.rbs_grammar.specs.Types as spec;
 ghost use Rattle.rbs_parser.specs.Nests.{Nests};
 ghost use Rattle.rbs_parser.specs.Reading.{Reads, ReadsIn, ReadsPlain};
 
+use crate::lists::push;
 use crate::names::{absolute_words, class_name, relative_words};
 use crate::values::{integer_value, string_value, symbol_value};
 use crate::{Cursor, Refusal, Set};
@@ -56,7 +57,7 @@ impl<
     {
         let mut all = Seq::new(self.alloc);
         let first = self.a_type(cursor)?;
-        all.push(first)?;
+        push(self.alloc, &mut all, first)?;
         'items: while cursor.eat(Set::One(Kind::Comma)) {
             let next = self.a_type(cursor)?;
             all.push(next)?;
@@ -178,7 +179,7 @@ impl<
         let token = cursor.expect(Set::Word)?;
         cursor.expect(Set::One(Kind::Colon))?;
         let ty = self.a_type(cursor)?;
-        let key = text_of(token)?;
+        let key = text_of(self.alloc, token)?;
         Ok(Field { key, ty })
     }
 
@@ -376,10 +377,10 @@ impl<
 }
 
 /// The text of a token.
-pub fn text_of(token: &Token) -> Mem<Text>
+pub fn text_of(alloc: Global, token: &Token<'_>) -> Mem<Text>
     ensures { IfOk result (λ text. text ≡ token.now.text) }
 {
-    Ok(token.text.clone()?)
+    Text::from_str(alloc, token.text())
 }
 
 /// A type of this name, whose last word says which.
@@ -393,11 +394,11 @@ fn named_type(last: Kind, name: TypeName, args: Seq<Ty>) -> Ty
     }
 }
 
-fn absolute_type(colons: &Token, words: Words, args: Seq<Ty>) -> Ty
+fn absolute_type(colons: &Token<'_>, words: Words, args: Seq<Ty>) -> Ty
     ensures { result ≡ spec.absolute_type colons.now (words, args) }
 {
     let at = Span {
-        start: colons.at.start,
+        start: colons.at().start,
         end: words.at.end,
     };
     let name = TypeName {
@@ -420,13 +421,13 @@ fn relative_type(words: Words, args: Seq<Ty>) -> Ty
 }
 
 /// The type that a token is.
-fn single_of(alloc: Global, token: &Token) -> Mem<Ty>
+fn single_of(alloc: Global, token: &Token<'_>) -> Mem<Ty>
     ensures { IfOk result (λ ty. ty ≡ spec.single_of token.now) }
 {
-    let ty = match token.kind {
-        Kind::Integer => Ty::IntLit(integer_value(token.text.as_str())),
-        Kind::String => Ty::StrLit(string_value(alloc, token.text.as_str())?),
-        Kind::Symbol => Ty::SymLit(symbol_value(alloc, token.text.as_str())?),
+    let ty = match token.kind() {
+        Kind::Integer => Ty::IntLit(integer_value(token.text())),
+        Kind::String => Ty::StrLit(string_value(alloc, token.text())?),
+        Kind::Symbol => Ty::SymLit(symbol_value(alloc, token.text())?),
         Kind::True => Ty::True,
         Kind::False => Ty::False,
         Kind::SelfWord => Ty::SelfTy,

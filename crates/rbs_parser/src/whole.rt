@@ -1,5 +1,5 @@
 ghost use Rattle.std.specs.Prelude.{◌≡◌, ◌<◌, ◌^◌, ℕ, List, length, Result, IfOk};
-ghost use Rattle.rbs_lexer.specs.declared.token.Token.{Token};
+ghost use Rattle.rbs_lexer.specs.Tokens.{Token};
 ghost use Rattle.rbs_grammar.specs.Grammar.{Fault};
 ghost use Rattle.rbs_grammar.specs.Parse as grammar;
 ghost use Rattle.rbs_grammar.specs.Texts as texts;
@@ -77,7 +77,7 @@ fn answered(
     stop: Span,
     bad: Option<Span>,
     found: Result<Seq<Decl>, Refusal>,
-    rest: &[Token],
+    rest: &[Token<'_>],
 ) -> Result<Seq<Decl>, ParseFault>
     ensures { (outcome : Result grammar.Tree (Fault × List Token)) → Parses outcome found rest.now → IsOnly result (texts.answer_of stop bad outcome) }
 {
@@ -110,11 +110,11 @@ fn stop_of(end: u32, bad: Option<Span>) -> Span
 }
 
 // The span of the first of some tokens, or of where they end.
-fn place_of(stop: Span, tokens: &[Token]) -> Span
+fn place_of(stop: Span, tokens: &[Token<'_>]) -> Span
     ensures { result ≡ texts.place_of stop tokens.now }
 {
     match tokens {
         [] => stop,
-        [next, ..] => next.at,
+        [next, ..] => next.at(),
     }
 }

@@ -1,4 +1,6 @@
 use crate::shown::shown;
+use core_sigs::core_text;
+use rbs_parser::parse;
 use src_text::Mem;
 use std::alloc::Global;
 use std::test::Fail;
@@ -270,5 +272,21 @@ fn a_declaration_and_127_types_may_be_open_at_once(rt: HostRuntime) -> Result<()
     assert_eq!(rt; found, nested_tree(alloc)?);
     let found = shown(alloc, nested(alloc, 127)?.as_str())?;
     assert_eq!(rt; found.as_str(), "TooDeep 136:143");
+    Ok(())
+}
+
+// Each of them ends with a line `end`.
+const CORE_DECLARATIONS: usize = 27;
+
+#[test]
+fn the_core_signatures_have_a_tree(rt: HostRuntime) -> Result<(), Fail> {
+    let text = core_text();
+    if text.len() >= 1 << 32 {
+        return Err("the text is too long to be read".into());
+    }
+    match parse(rt.alloc(), text) {
+        Ok(decls) => assert_eq!(rt; decls.len(), CORE_DECLARATIONS),
+        Err(_) => assert!(rt; false),
+    }
     Ok(())
 }

@@ -7,8 +7,8 @@ returns-in-None-clause-tokens c = only_tokens c.args.text.now _ _ c.in_ok-lexed.
 pub returns-in-None-clause-bad : goal.returns-in-None-clause-bad
 returns-in-None-clause-bad c = not_bad c.args.text.now _ _ c.in_ok-lexed.ensures.one c.in-None.is
 
-pub returns-in-Some-clause-tokens : goal.returns-in-Some-clause-tokens
-returns-in-Some-clause-tokens c = not_tokens c.args.text.now _ _ c.in_ok-lexed.ensures.one _ c.in-Some.is
+pub returns-clause-tokens : goal.returns-clause-tokens
+returns-clause-tokens c = not_tokens c.args.text.now _ _ c.in_ok-lexed.ensures.one _ c.in-Some.is
 
-pub returns-in-Some-clause-bad : goal.returns-in-Some-clause-bad
-returns-in-Some-clause-bad c = only_bad c.args.text.now _ _ c.in_ok-lexed.ensures.one _ c.in-Some.is
+pub returns-clause-bad : goal.returns-clause-bad
+returns-clause-bad c = only_bad c.args.text.now _ _ c.in_ok-lexed.ensures.one _ c.in-Some.is

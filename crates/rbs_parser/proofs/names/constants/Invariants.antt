@@ -6,8 +6,8 @@ use Rattle.rbs_grammar.specs.Names.{constants}
 use Rattle.rbs_parser.proofs.NameWords.{with_constants}
 use Rattle.rbs_parser.proofs.names.constants.Given as goal
 
-abbrev pub invariant-loop-cursor : goal.invariant-loop-cursor
-invariant-loop-cursor l = read (read_in full) constants l.fn.cursor ≡ with_constants l.words at.Open l.cursor
+abbrev pub invariant-items : goal.invariant-items
+invariant-items l = read (read_in full) constants l.fn.cursor ≡ with_constants l.words at.Open l.cursor
 
-abbrev pub decreases-loop-cursor : goal.decreases-loop-cursor
-decreases-loop-cursor l = length l.cursor
+abbrev pub decreases-items : goal.decreases-items
+decreases-items l = length l.cursor

@@ -5,8 +5,8 @@ use Rattle.rbs_parser.specs.NameWords.{words_by}
 use Rattle.rbs_parser.proofs.NameWords.{with_words}
 use Rattle.rbs_parser.proofs.names.words.Given as goal
 
-abbrev pub invariant-loop-ends : goal.invariant-loop-ends
-invariant-loop-ends l = read (read_in full) (words_by l.fn.lone l.fn.ends) l.fn.cursor ≡ with_words l.fn.ends l.words l.stage l.cursor
+abbrev pub invariant-items : goal.invariant-items
+invariant-items l = read (read_in full) (words_by l.fn.lone l.fn.ends) l.fn.cursor ≡ with_words l.fn.ends l.words l.stage l.cursor
 
-abbrev pub decreases-loop-ends : goal.decreases-loop-ends
-decreases-loop-ends l = length l.cursor
+abbrev pub decreases-items : goal.decreases-items
+decreases-items l = length l.cursor

@@ -1,6 +1,6 @@
 use Rattle.std.specs.Str.Iter.{char_indices_rest, char_indices_offset}
 use Rattle.rbs_lexer.proofs.WordLen.{Stands}
-use Rattle.rbs_lexer.proofs.words.word_len.Given as goal
+use Rattle.rbs_lexer.proofs.words.any_len.Given as goal
 
 abbrev pub invariant-loop-at : goal.invariant-loop-at
 invariant-loop-at l = record {

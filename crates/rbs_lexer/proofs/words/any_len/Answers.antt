@@ -1,7 +1,7 @@
 use Rattle.std.proofs.Common.{◌<◌, ◌^◌, length, sym, ◌∙◌, ap, arith}
 use Rattle.std.specs.Str.Iter.{char_indices_rest, char_indices_offset}
 use Rattle.rbs_lexer.proofs.WordLen.{stops, goes, starts, ends}
-use Rattle.rbs_lexer.proofs.words.word_len.Goals as goal
+use Rattle.rbs_lexer.proofs.words.any_len.Goals as goal
 
 pub loop-at-init : goal.loop-at-init
 loop-at-init c =
