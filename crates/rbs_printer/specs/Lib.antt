@@ -1,0 +1,4 @@
+pub mod Again
+pub mod Lists
+pub mod Printed
+pub mod Words
