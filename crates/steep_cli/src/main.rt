@@ -4,6 +4,8 @@
 #![tactic(auto)]
 
 use ports::{FolderTree, OpenGate, StdSink, StdSource};
+use src_text::NoMemory;
+use std::alloc::Global;
 use std::process::ExitCode;
 use std::{env, io};
 use steep_run::{Outcome, Part, run};
@@ -13,11 +15,11 @@ fn main(rt: HostRuntime) -> io::Result<ExitCode> {
     let mut words = Vec::new(alloc);
     let Ok(args) = env::args(&rt) else {
         // Words that aren't UTF-8 are none that the program knows.
-        return told(&rt, Outcome::Unbuilt(Part::Words));
+        return told(&rt, alloc, Outcome::Unbuilt(Part::Words));
     };
     for word in args.skip(1) {
         if words.push(word).is_err() {
-            return told(&rt, Outcome::NoMemory);
+            return told(&rt, alloc, Outcome::NoMemory);
         }
     }
     let mut source = StdSource::new(rt.reader());
@@ -32,15 +34,26 @@ fn main(rt: HostRuntime) -> io::Result<ExitCode> {
         &mut tree,
         &OpenGate,
     );
-    told(&rt, outcome)
+    told(&rt, alloc, outcome)
 }
 
 // Prints the outcome's line, if it has one, and gives its status.
-fn told(rt: &impl Eprint, outcome: Outcome) -> io::Result<ExitCode> {
-    if let Some(line) = outcome.line() {
-        eprintln!(rt; "{line}")?;
+fn told(rt: &impl Eprint, alloc: Global, outcome: Outcome) -> io::Result<ExitCode> {
+    match outcome.line(alloc) {
+        Ok(Some(line)) => {
+            let line = line.as_str();
+            eprintln!(rt; "{line}")?;
+        }
+        Ok(None) => {}
+        Err(NoMemory) => return told_alone(rt),
     }
     Ok(ExitCode::from(outcome.status()))
+}
+
+// What is told where there is no memory for an outcome's line.
+fn told_alone(rt: &impl Eprint) -> io::Result<ExitCode> {
+    eprintln!(rt; "steep: out of memory")?;
+    Ok(ExitCode::from(Outcome::NoMemory.status()))
 }
 
 #[cfg(test)]

@@ -6,7 +6,7 @@ use std::alloc::Global;
 use std::sync::Wait;
 use std::test::Fail;
 use std::thread::Threads;
-use steep_run::{CheckPlan, Outcome, Part, run, run_check};
+use steep_run::{CheckPlan, Limit, Outcome, Part, run, run_check};
 
 const FOO: &str = "class Foo\n  def bar: (Integer x) -> String\nend\n";
 
@@ -133,24 +133,55 @@ fn texts_are_checked_and_reported(rt: HostRuntime) -> Result<(), Fail> {
             MISSING,
         ),
         (
+            b"class Foo def `bar`: -> B end",
+            b"Foo.new.bar",
+            Outcome::Clean,
+            CLEAN,
+        ),
+        (
             b"class Foo def bar: () -> Integer? end",
             b"",
             unbuilt_signature,
             "",
         ),
         (
-            b"class Foo def bar: (Integer,) -> B end",
+            b"class Foo def bar: (?Integer) -> B end",
             b"",
             unbuilt_signature,
             "",
         ),
-        (b"class Foo def bar:Integer end", b"", unbuilt_signature, ""),
+        (
+            b"class Foo def bar: (String) -> B end",
+            b"",
+            unbuilt_signature,
+            "",
+        ),
+        (
+            b"class Foo def self.bar: () -> B end",
+            b"",
+            unbuilt_signature,
+            "",
+        ),
+        (
+            b"class Foo public def bar: () -> B end",
+            b"",
+            unbuilt_signature,
+            "",
+        ),
         (
             b"class Foo def initialize: () -> B end",
             b"",
             unbuilt_signature,
             "",
         ),
+        (b"class Foo def 1a: () -> B end", b"", unbuilt_signature, ""),
+        (b"class Foo def A: () -> B end", b"", unbuilt_signature, ""),
+        (b"class Foo def _A: () -> B end", b"", unbuilt_signature, ""),
+        (b"class Foo def a?: () -> B end", b"", unbuilt_signature, ""),
+        (b"class Foo < Bar end", b"", unbuilt_signature, ""),
+        (b"class Foo[T] end", b"", unbuilt_signature, ""),
+        (b"class ::Foo end", b"", unbuilt_signature, ""),
+        (b"interface _Foo end", b"", unbuilt_signature, ""),
         (
             b"class Foo def a: () -> B def a: () -> B end",
             b"",
@@ -158,15 +189,88 @@ fn texts_are_checked_and_reported(rt: HostRuntime) -> Result<(), Fail> {
             "",
         ),
         (b"class Foo end class Foo end", b"", unbuilt_signature, ""),
-        (b"class foo end", b"", unbuilt_signature, ""),
-        (b"class Foo", b"Bar", unbuilt_signature, ""),
-        (b"%a{x class Foo end", b"", unbuilt_signature, ""),
     ];
     for (signature, ruby, outcome, wanted) in rows {
         let tree = tree(alloc, ("lib/a.rb", ruby), ("sig/a.rbs", signature), &[])?;
         let (answer, written) = ran(&rt, alloc, &["check"], tree, &[])?;
         assert_eq!(rt; answer, outcome, "{signature:?} {ruby:?}");
         assert_eq!(rt; written.as_str(), wanted, "{signature:?} {ruby:?}");
+    }
+    Ok(())
+}
+
+#[test]
+fn refused_signatures_are_reported(rt: HostRuntime) -> Result<(), Fail> {
+    let alloc = rt.alloc();
+    let rows = [
+        ("class", "sig/a.rbs:1:5: [error] Syntax error"),
+        ("class foo end", "sig/a.rbs:1:6: [error] Syntax error"),
+        ("class Foo\n", "sig/a.rbs:2:0: [error] Syntax error"),
+        (
+            "class Foo def bar: (Integer,) -> B end",
+            "sig/a.rbs:1:28: [error] Syntax error",
+        ),
+        (
+            "class Foo def bar:Integer end",
+            "sig/a.rbs:1:17: [error] Syntax error",
+        ),
+        ("%a{x class Foo end", "sig/a.rbs:1:0: [error] Syntax error"),
+    ];
+    for (signature, wanted) in rows {
+        let wanted = format!(in alloc;
+            "{wanted} (RBS::SyntaxError)\nDetected 1 problem from 1 file.\n"
+        )?;
+        let signature = ("sig/a.rbs", signature.as_bytes());
+        let quiet = tree(alloc, ("lib/a.rb", b"\n"), signature, &[])?;
+        let (answer, written) = ran(&rt, alloc, &["check"], quiet, &[])?;
+        assert_eq!(rt; answer, Outcome::Found(1), "{wanted}");
+        assert_eq!(rt; written.as_str(), wanted.as_str());
+        let calling = tree(alloc, ("lib/a.rb", b"Foo.new.bar"), signature, &[])?;
+        let (answer, written) = ran(&rt, alloc, &["check"], calling, &[])?;
+        assert_eq!(rt; answer, Outcome::Unbuilt(Part::Ruby), "{wanted}");
+        assert_eq!(rt; written.as_str(), "");
+    }
+    Ok(())
+}
+
+#[test]
+fn a_deep_signature_is_refused(rt: HostRuntime) -> Result<(), Fail> {
+    let alloc = rt.alloc();
+    let opened = "[".repeat(alloc, 127)?;
+    let deep = format!(in alloc; "type t = {opened}Integer")?;
+    let tree = tree(
+        alloc,
+        ("lib/a.rb", b""),
+        ("sig/a.rbs", deep.as_bytes()),
+        &[],
+    )?;
+    let (answer, written) = ran(&rt, alloc, &["check"], tree, &[])?;
+    assert_eq!(rt; answer, Outcome::Found(1));
+    assert_eq!(rt;
+        written.as_str(),
+        "sig/a.rbs:1:136: [error] Nesting is deeper than 128 (RBS::SyntaxError)\nDetected 1 problem from 1 file.\n"
+    );
+    Ok(())
+}
+
+#[test]
+fn long_texts_are_told(rt: HostRuntime) -> Result<(), Fail> {
+    let alloc = rt.alloc();
+    let long = "(".repeat(alloc, 1_048_577)?;
+    let longer = "(".repeat(alloc, 1_048_578)?;
+    let rows = [
+        ("", long.as_str(), 1_048_577),
+        ("(", long.as_str(), 1_048_577),
+        (longer.as_str(), "(", 1_048_578),
+        (longer.as_str(), long.as_str(), 1_048_578),
+        (long.as_str(), longer.as_str(), 1_048_577),
+    ];
+    for (ruby, signature, length) in rows {
+        let ruby = ("lib/a.rb", ruby.as_bytes());
+        let tree = tree(alloc, ruby, ("sig/a.rbs", signature.as_bytes()), &[])?;
+        let (answer, written) = ran(&rt, alloc, &["check"], tree, &[])?;
+        assert_eq!(rt; answer, Outcome::TooLarge(Limit::File, length));
+        assert_eq!(rt; written.as_str(), "");
     }
     Ok(())
 }
@@ -245,6 +349,7 @@ fn a_root_stands_before_the_paths(rt: HostRuntime) -> Result<(), Fail> {
 
 #[test]
 fn outcomes_have_statuses_and_lines(rt: HostRuntime) -> Result<(), Fail> {
+    let alloc = rt.alloc();
     let rows = [
         (Outcome::Clean, 0, None),
         (Outcome::Found(3), 1, None),
@@ -256,14 +361,21 @@ fn outcomes_have_statuses_and_lines(rt: HostRuntime) -> Result<(), Fail> {
         (Outcome::SinkFault, 6, Some("steep: cannot write output")),
         (Outcome::NoMemory, 8, Some("steep: out of memory")),
         (
+            Outcome::TooLarge(Limit::File, 1_048_577),
+            9,
+            Some("steep: limit passed: File 1048577"),
+        ),
+        (
             Outcome::Unbuilt(Part::Ruby),
             10,
             Some("steep: not built yet"),
         ),
     ];
-    for (outcome, status, line) in rows {
+    for (outcome, status, wanted) in rows {
         assert_eq!(rt; outcome.status(), status, "{outcome:?}");
-        assert!(rt; outcome.line() == line, "{outcome:?}");
+        let line = outcome.line(alloc)?;
+        let line = line.as_ref().map(|line| line.as_str());
+        assert!(rt; line == wanted, "{outcome:?}");
     }
     Ok(())
 }

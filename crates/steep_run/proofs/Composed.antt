@@ -1,4 +1,4 @@
--- From what was read of a tree to what was reported of its project, and one more write behind others.
+-- One more write behind others.
 use Rattle.std.proofs.Common.{◌≡◌, ℕ, ◌+◌, ◌-◌, List, ◌++◌, Option, arith, length, take, drop, sym, ◌∙◌, take-append-drop}
 use Rattle.std.proofs.lemmas.List.{drop-take, take_rest, take-take}
 use Rattle.std.specs.Io.KnownBytes.{Appends}

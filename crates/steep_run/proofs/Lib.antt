@@ -1,12 +1,11 @@
 pub mod CallLemmas
 pub mod Composed
-pub mod KnownLemmas
-pub mod LexerLemmas
 pub mod NumberLemmas
-pub mod ParserLemmas
 pub mod PathLemmas
+pub mod ProjectLemmas
 pub mod ReadLemmas
 pub mod RubyLemmas
+pub mod SignatureLemmas
 pub mod TableLemmas
 pub mod TableSteps
 pub mod TestLemmas

@@ -12,7 +12,8 @@ use Rattle.std.specs.List.{list_all, list_any}
 use Rattle.std.specs.Option.{option_map_or}
 use Rattle.std.specs.Map.{lookup}
 use Rattle.steep_run.specs.Words.{is_line_end, same_word}
-use Rattle.steep_run.specs.Ruby.{Line, in_front, lines_from, is_filled, filled, filled_lines, Known, accepts, fits, lacks}
+use Rattle.steep_run.specs.Small.{Known}
+use Rattle.steep_run.specs.Ruby.{Line, in_front, lines_from, is_filled, filled, filled_lines, accepts, fits, lacks}
 
 -- the lines that aren't empty of a line and others
 filled_front : (b : Bool) (l : Line) (ls : List Line) → (if b then l ∷ ls else ls) ≡ (if b then l ∷ [] else []) ++ ls

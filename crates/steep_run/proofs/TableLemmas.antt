@@ -1,16 +1,13 @@
 -- A table by name holds just the entries that are given, where no name stands twice, and else there is none.
-use Rattle.std.proofs.Common.{◌≡◌, ℕ, Bool, true, false, not, ◌&&◌, ◌||◌, IsTrue, List, [], ◌∷◌, ◌++◌, map, Option, None, Some, is_none, refl, sym, ap, ◌∙◌, append_assoc, append-nil}
+use Rattle.std.proofs.Common.{◌≡◌, ℕ, Bool, true, false, not, ◌&&◌, ◌||◌, List, [], ◌∷◌, ◌++◌, Option, None, Some, is_none, refl, sym, ap, ◌∙◌, append_assoc, append-nil}
 use Rattle.std.specs.Prelude.{if◌then◌else◌, cond}
 use Rattle.std.specs.List.{list_all, list_any}
 use Rattle.std.specs.Map.{lookup}
 use Rattle.std.specs.Cmp.Lexicographic.{nat_list_eq_equiv}
 use Rattle.std.proofs.lemmas.Option.{none-some, same_Some}
 use Rattle.steep_run.specs.Words.{same_word}
-use Rattle.steep_run.specs.Ruby.{Known, declared_methods, declared}
-use Rattle.steep_run.specs.Signature.{all_distinct, has_distinct_names}
+use Rattle.steep_run.specs.Small.{Known, all_distinct, names_of, has_distinct_names}
 use Rattle.steep_run.specs.Reading.{added, tabled, tabled_classes}
-use Rattle.steep_run.specs.declared.signature.tree.Class.{Class}
-use Rattle.steep_run.specs.declared.signature.tree.Method.{Method}
 use Rattle.steep_run.proofs.TestLemmas.{if_true, and_left, and_right, both_true}
 
 -- whether a table has no entry of this name
@@ -21,9 +18,6 @@ lacks_name table name = is_none (lookup (same_word name) table)
 abbrev is_apart : {V : Type 0} → List (List ℕ × V) → List (List ℕ × V) → Bool
 is_apart table [] = true
 is_apart table (e ∷ es) = lacks_name table e.0 && is_apart table es
-
-abbrev names_of : {V : Type 0} → List (List ℕ × V) → List (List ℕ)
-names_of = map (λ e. e.0)
 
 same_word-symm : (a b : List ℕ) → same_word a b ≡ same_word b a
 same_word-symm a b = nat_list_eq_equiv.symm a b
@@ -108,70 +102,52 @@ apart_from_none (e ∷ es) = apart_from_none es
 
 -- ---- classes
 
-abbrev method_names : Class → List (List ℕ)
-method_names c = map (λ (m : Method). m.name) c.methods
+abbrev all_methods_distinct : Known → Bool
+all_methods_distinct = list_all (λ c. all_distinct (names_of c.1))
 
-abbrev class_names : List Class → List (List ℕ)
-class_names = map (λ (c : Class). c.name)
+abbrev after_methods : Known → List ℕ → Option (List (List ℕ × ℕ)) → Option Known
+after_methods table name o = elim o [ None ↦ None | Some methods ↦ added table name methods ]
 
-abbrev all_methods_distinct : List Class → Bool
-all_methods_distinct = list_all (λ (c : Class). all_distinct (map (λ (m : Method). m.name) c.methods))
-
-names_of-methods : (ms : List Method) → names_of (declared_methods ms) ≡ map (λ (m : Method). m.name) ms
-names_of-methods [] = refl
-names_of-methods (m ∷ ms) = ap (λ ns. m.name ∷ ns) (names_of-methods ms)
-
-names_of-declared : (cs : List Class) → names_of (declared cs) ≡ class_names cs
-names_of-declared [] = refl
-names_of-declared (c ∷ cs) = ap (λ ns. c.name ∷ ns) (names_of-declared cs)
-
-abbrev after_methods : Known → Class → Option (List (List ℕ × ℕ)) → Option Known
-after_methods table c o = elim o [ None ↦ None | Some methods ↦ added table c.name methods ]
-
-abbrev after_class : Option Known → List Class → Option Known
+abbrev after_class : Option Known → Known → Option Known
 after_class o cs = elim o [ None ↦ None | Some next ↦ tabled_classes next cs ]
 
-same_after : (o : Option Known) (cs : List Class) → ((table : Known) → tabled_classes table cs ≡ tabled table (declared cs)) → after_class o cs ≡ after_entry o (declared cs)
-same_after None cs same = refl
-same_after (Some table) cs same = same table
+as_entries_after : (o : Option Known) (cs : Known) → ((table : Known) → tabled_classes table cs ≡ tabled table cs) → after_class o cs ≡ after_entry o cs
+as_entries_after None cs same = refl
+as_entries_after (Some table) cs same = same table
 
--- where no method stands twice in a class, the classes' table is that of what they declare
-tabled_declared : (cs : List Class) (table : Known) → all_methods_distinct cs ≡ true → tabled_classes table cs ≡ tabled table (declared cs)
-tabled_declared [] table h = refl
-tabled_declared (c ∷ cs) table h =
-    let distinct : all_distinct (names_of (declared_methods c.methods)) ≡ true =
-    ap all_distinct (names_of-methods c.methods) ∙ and_left (all_distinct (method_names c)) (all_methods_distinct cs) h in
-    ap (λ o. after_class (after_methods table c o) cs) (tabled_all (declared_methods c.methods) [] (apart_from_none (declared_methods c.methods)) distinct)
-    ∙ same_after (added table c.name (declared_methods c.methods)) cs (λ next. tabled_declared cs next (and_right (all_distinct (method_names c)) (all_methods_distinct cs) h))
+-- where no method stands twice in a class, the classes' table is that of them as entries
+tabled_as_entries : (cs table : Known) → all_methods_distinct cs ≡ true → tabled_classes table cs ≡ tabled table cs
+tabled_as_entries [] table h = refl
+tabled_as_entries (c ∷ cs) table h =
+    ap (λ o. after_class (after_methods table c.0 o) cs) (tabled_all c.1 [] (apart_from_none c.1) (and_left (all_distinct (names_of c.1)) (all_methods_distinct cs) h))
+    ∙ as_entries_after (added table c.0 c.1) cs (λ next. tabled_as_entries cs next (and_right (all_distinct (names_of c.1)) (all_methods_distinct cs) h))
 
-rest_distinct : (o : Option Known) (cs : List Class) (known : Known) → ((table : Known) → tabled_classes table cs ≡ Some known → all_methods_distinct cs ≡ true)
+rest_distinct : (o : Option Known) (cs known : Known) → ((table : Known) → tabled_classes table cs ≡ Some known → all_methods_distinct cs ≡ true)
     → after_class o cs ≡ Some known → all_methods_distinct cs ≡ true
 rest_distinct None cs known more h = absurd (none-some known h)
 rest_distinct (Some table) cs known more h = more table h
 
-class_distinct : (c : Class) (cs : List Class) (table known : Known) (o : Option (List (List ℕ × ℕ))) → tabled [] (declared_methods c.methods) ≡ o
+class_distinct : (c : List ℕ × List (List ℕ × ℕ)) (cs table known : Known) (o : Option (List (List ℕ × ℕ))) → tabled [] c.1 ≡ o
     → ((next : Known) → tabled_classes next cs ≡ Some known → all_methods_distinct cs ≡ true)
-    → after_class (after_methods table c o) cs ≡ Some known → all_methods_distinct (c ∷ cs) ≡ true
+    → after_class (after_methods table c.0 o) cs ≡ Some known → all_methods_distinct (c ∷ cs) ≡ true
 class_distinct c cs table known None is more h = absurd (none-some known h)
 class_distinct c cs table known (Some methods) is more h =
-    let made : IsTabled [] (declared_methods c.methods) methods = tabled_only (declared_methods c.methods) [] methods is in
-    both_true (all_distinct (method_names c)) (all_methods_distinct cs) (ap all_distinct (sym (names_of-methods c.methods)) ∙ made.1)
-    (rest_distinct (added table c.name methods) cs known more h)
+    let made : IsTabled [] c.1 methods = tabled_only c.1 [] methods is in
+    both_true (all_distinct (names_of c.1)) (all_methods_distinct cs) made.1 (rest_distinct (added table c.0 methods) cs known more h)
 
-methods_distinct : (cs : List Class) (table known : Known) → tabled_classes table cs ≡ Some known → all_methods_distinct cs ≡ true
+methods_distinct : (cs table known : Known) → tabled_classes table cs ≡ Some known → all_methods_distinct cs ≡ true
 methods_distinct [] table known h = refl
-methods_distinct (c ∷ cs) table known h =
-    class_distinct c cs table known (tabled [] (declared_methods c.methods)) refl (λ next. methods_distinct cs next known) h
+methods_distinct (c ∷ cs) table known h = class_distinct c cs table known (tabled [] c.1) refl (λ next. methods_distinct cs next known) h
 
-pub tabled_complete : (classes : List Class) → IsTrue (has_distinct_names classes) → tabled_classes [] classes ≡ Some (declared classes)
-tabled_complete classes h =
-    let distinct : all_distinct (names_of (declared classes)) ≡ true =
-    ap all_distinct (names_of-declared classes) ∙ and_left (all_distinct (class_names classes)) (all_methods_distinct classes) h in
-    tabled_declared classes [] (and_right (all_distinct (class_names classes)) (all_methods_distinct classes) h)
-    ∙ tabled_all (declared classes) [] (apart_from_none (declared classes)) distinct
+-- the table of classes that are distinct is these classes
+pub tabled_complete : (cs : Known) → has_distinct_names cs ≡ true → tabled_classes [] cs ≡ Some cs
+tabled_complete cs h =
+    tabled_as_entries cs [] (and_right (all_distinct (names_of cs)) (all_methods_distinct cs) h)
+    ∙ tabled_all cs [] (apart_from_none cs) (and_left (all_distinct (names_of cs)) (all_methods_distinct cs) h)
 
-pub tabled_sound : (classes : List Class) (known : Known) → tabled_classes [] classes ≡ Some known → IsTrue (has_distinct_names classes) × (known ≡ declared classes)
-tabled_sound classes known h =
-    let methods : all_methods_distinct classes ≡ true = methods_distinct classes [] known h in
-    let made : IsTabled [] (declared classes) known = tabled_only (declared classes) [] known (sym (tabled_declared classes [] methods) ∙ h) in
-    (both_true (all_distinct (class_names classes)) (all_methods_distinct classes) (ap all_distinct (sym (names_of-declared classes)) ∙ made.1) methods, made.2)
+-- and where there is a table they are distinct
+pub tabled_distinct : (cs known : Known) → tabled_classes [] cs ≡ Some known → has_distinct_names cs ≡ true
+tabled_distinct cs known h =
+    let methods : all_methods_distinct cs ≡ true = methods_distinct cs [] known h in
+    let made : IsTabled [] cs known = tabled_only cs [] known (sym (tabled_as_entries cs [] methods) ∙ h) in
+    both_true (all_distinct (names_of cs)) (all_methods_distinct cs) made.1 methods

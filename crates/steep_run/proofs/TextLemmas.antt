@@ -7,7 +7,8 @@ use Rattle.std.specs.Str.{IsAscii}
 use Rattle.std.specs.List.{list_all}
 use Rattle.diagnostics.specs.declared.diagnostic.Diagnostic.{Diagnostic}
 use Rattle.steep_run.specs.Words.{is_ascii_word_byte, is_mark_byte, begins}
-use Rattle.steep_run.specs.Ruby.{Line, Call, Known, filled, filled_lines, method_name, brackets, call_line, is_mark, is_plain_call, call_fits, fits, lacks, fault_of, fault_at, faults_of, IsCall, IsNoCall, ReadsRuby}
+use Rattle.steep_run.specs.Small.{Known}
+use Rattle.steep_run.specs.Ruby.{Line, Call, filled, filled_lines, method_name, brackets, call_line, is_mark, is_plain_call, call_fits, fits, lacks, fault_of, fault_at, faults_of, IsCall, IsNoCall, ReadsRuby}
 use Rattle.steep_run.specs.Reading.{IsMethod, ReadsLine, new_numbers, count_numbers}
 use Rattle.steep_run.proofs.CallLemmas.{both_true, mark_is, mark_stop, brackets_stop, IsPlain, plain_parts}
 use Rattle.steep_run.proofs.NumberLemmas.{count_complete}
@@ -220,11 +221,11 @@ one_more known bytes at next line rest more old new so reads split further = rec
 }
 
 -- the text's end
-pub at_last : (known : Known) (bytes : List ℕ) (at : ℕ) (rest : List ℕ) (faults : List Diagnostic) → length bytes ≤ 1048576 → SoFar known bytes at rest faults
+pub at_last : (known : Known) (bytes : List ℕ) (at : ℕ) (rest : List ℕ) (faults : List Diagnostic) → SoFar known bytes at rest faults
     → length rest ≡ 0 → ReadsRuby known bytes (Some faults)
-at_last known bytes at [] faults short so none =
-    (so.calls, record { short = short; written = so.lines ∙ append-nil (map call_line so.calls); plain = so.plain; fit = so.fit }, so.faults_are)
-at_last known bytes at (x ∷ xs) faults short so none = absurd (omega arith)
+at_last known bytes at [] faults so none =
+    (so.calls, record { written = so.lines ∙ append-nil (map call_line so.calls); plain = so.plain; fit = so.fit }, so.faults_are)
+at_last known bytes at (x ∷ xs) faults so none = absurd (omega arith)
 
 -- calls behind other calls
 behind_calls : (known : Known) (xs zs : List Call) (lines : List Line) → map call_line xs ++ lines ≡ map call_line zs → list_all is_plain_call zs ≡ true

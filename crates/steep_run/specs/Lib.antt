@@ -3,4 +3,5 @@ pub mod Reading
 pub mod Report
 pub mod Ruby
 pub mod Signature
+pub mod Small
 pub mod Words

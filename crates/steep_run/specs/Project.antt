@@ -1,11 +1,12 @@
 -- The two files that a check reads, and how a report prints what is found in them.
-use Rattle.std.specs.Prelude.{ℕ, ◌==◌, List, [], ◌∷◌, ◌++◌, length, codes, Option, None, Some, if◌then◌else◌}
+use Rattle.std.specs.Prelude.{ℕ, ◌+◌, ◌==◌, nat_lt, min, Bool, List, [], ◌∷◌, ◌++◌, length, codes, Option, None, Some, if◌then◌else◌}
 use Rattle.std.specs.List.{list_all}
 use Rattle.std.specs.Str.Lossy.{utf8_lossy}
 use Rattle.ports.specs.Tree.{bytes_at}
 use Rattle.diagnostics.specs.declared.diagnostic.Diagnostic.{Diagnostic}
 use Rattle.diagnostics.specs.Lines.{diagnostic_line, summary}
 use Rattle.steep_run.specs.Words.{same_word}
+use Rattle.steep_run.specs.declared.faults.Faults.{Faults}
 use Rattle.steep_run.specs.declared.project.Project.{Project}
 
 -- the paths of the project's two files
@@ -36,15 +37,29 @@ project_of root files = record {
   ruby = text_of (bytes_at files (rooted root ruby_path));
 }
 
+-- whether a text is longer than 1,048,576 bytes
+abbrev pub is_too_long : List ℕ → Bool
+is_too_long text = nat_lt 1048576 (length text)
+
+-- the length of the first text that is too long, in the order of the paths: `lib/a.rb` before `sig/a.rbs`
+abbrev pub first_too_long : Project → Option ℕ
+first_too_long p =
+    if is_too_long p.ruby then Some (length p.ruby) else (if is_too_long p.signature then Some (length p.signature) else None)
+
 -- the lines of a text's diagnostics
 abbrev pub lines_of : List ℕ → List ℕ → List Diagnostic → List ℕ
 lines_of path text [] = []
 lines_of path text (d ∷ ds) = diagnostic_line path text d ++ lines_of path text ds
 
--- how many files have diagnostics, where all of them are in one
-abbrev pub files_of : ℕ → ℕ
-files_of n = if n == 0 then 0 else 1
+-- how many diagnostics there are
+abbrev pub count_of : Faults → ℕ
+count_of faults = length faults.ruby + length faults.signature
 
--- what is printed of a Ruby text's diagnostics: their lines, and the line that counts them
-abbrev pub report : List ℕ → List Diagnostic → List ℕ
-report ruby ds = lines_of ruby_path ruby ds ++ summary (length ds) (files_of (length ds))
+-- how many files have one
+abbrev pub files_of : Faults → ℕ
+files_of faults = min (length faults.ruby) 1 + min (length faults.signature) 1
+
+-- what is printed of a project's diagnostics: their lines, file by file in the order of the paths, and the line that counts them
+abbrev pub report : Project → Faults → List ℕ
+report p faults =
+    lines_of ruby_path p.ruby faults.ruby ++ lines_of signature_path p.signature faults.signature ++ summary (count_of faults) (files_of faults)

@@ -1,25 +1,36 @@
 -- What each answer of a check says.
-use Rattle.std.specs.Prelude.{◌≡◌, ℕ, ◌<◌, ◌⊎◌, Bool, false, List, [], ◌∷◌, length, take, codes, Option, None, Some}
+use Rattle.std.specs.Prelude.{◌≡◌, ℕ, ◌<◌, ◌⊎◌, Bool, false, List, [], ◌∷◌, take, codes, Option, None, Some}
+use Rattle.std.specs.Fmt.{decimal}
 use Rattle.std.specs.Io.KnownBytes.{Appends, Keeps}
 use Rattle.ports.specs.Causes.{Rose}
+use Rattle.diagnostics.specs.Lines.{joined}
 use Rattle.diagnostics.specs.declared.diagnostic.Diagnostic.{Diagnostic}
 use Rattle.steep_run.specs.Words.{same_word}
-use Rattle.steep_run.specs.Project.{report}
+use Rattle.steep_run.specs.Project.{first_too_long, count_of, report}
+use Rattle.steep_run.specs.Small.{Known}
+use Rattle.steep_run.specs.Signature.{SignatureGives, HasOtherTree}
+use Rattle.steep_run.specs.Ruby.{Call, IsRuby, faults_of}
+use Rattle.steep_run.specs.declared.faults.Faults.{Faults}
 use Rattle.steep_run.specs.declared.project.Project.{Project}
-use Rattle.steep_run.specs.Signature.{IsSignature}
-use Rattle.steep_run.specs.Ruby.{Call, IsRuby, declared, faults_of}
-use Rattle.steep_run.specs.declared.signature.tree.Class.{Class}
+use Rattle.steep_run.specs.declared.outcome.Limit.{Limit}
+use Rattle.steep_run.specs.declared.outcome.Limit.TheVariants.{File}
 use Rattle.steep_run.specs.declared.outcome.Outcome.{Outcome}
-use Rattle.steep_run.specs.declared.outcome.Outcome.TheVariants.{NoMemory, TreeFault, Unbuilt, SinkFault, Found, Clean}
+use Rattle.steep_run.specs.declared.outcome.Outcome.TheVariants.{NoMemory, TreeFault, TooLarge, Unbuilt, SinkFault, Found, Clean}
 use Rattle.steep_run.specs.declared.outcome.Part.TheVariants.{Words, Signature, Ruby}
 
--- the project is of small texts, and has these faults, all in its Ruby text and in its order
-pub record HasFaults (p : Project) (faults : List Diagnostic) : Type 0 where
-  pub classes : List Class
+-- No text of the project is too long, what its signature gives is known, its Ruby text is small over that, and these are the faults of the
+-- two, in the order of each text.
+pub record HasFaults (p : Project) (faults : Faults) : Type 0 where
+  pub known : Known
   pub calls : List Call
-  pub signature : IsSignature p.signature classes
-  pub ruby : IsRuby (declared classes) p.ruby calls
-  pub faults_are : faults_of (declared classes) calls ≡ faults
+  pub sizes : first_too_long p ≡ None
+  pub signature : SignatureGives p.signature known faults.signature
+  pub ruby : IsRuby known p.ruby calls
+  pub ruby_faults : faults.ruby ≡ faults_of known calls
+
+-- The Ruby text isn't small over what the signature gives.
+abbrev pub HasOtherRuby : Project → Type 0
+HasOtherRuby p = (known : Known) × (faults : List Diagnostic) × SignatureGives p.signature known faults × ((calls : List Call) → ¬ IsRuby known p.ruby calls)
 
 -- known bytes grew by a part of these, from their front
 abbrev pub GainsPrefix : Option (List ℕ) → Option (List ℕ) → List ℕ → Type 0
@@ -27,15 +38,15 @@ GainsPrefix old new bytes = (n : ℕ) × Appends old new (take n bytes)
 
 -- what a check of this project did to a sink, by its answer
 abbrev pub Reports : Project → Option (List ℕ) → Option (List ℕ) → Outcome → Type 0
-Reports p old new Clean = HasFaults p [] × Appends old new (report p.ruby [])
-Reports p old new (Found n) = (faults : List Diagnostic) × HasFaults p faults × (length faults ≡ n) × (0 < n) × Appends old new (report p.ruby faults)
-Reports p old new SinkFault = (faults : List Diagnostic) × HasFaults p faults × GainsPrefix old new (report p.ruby faults)
+Reports p old new Clean = (faults : Faults) × HasFaults p faults × (count_of faults ≡ 0) × Appends old new (report p faults)
+Reports p old new (Found n) = (faults : Faults) × HasFaults p faults × (count_of faults ≡ n) × (0 < n) × Appends old new (report p faults)
+Reports p old new SinkFault = (faults : Faults) × HasFaults p faults × GainsPrefix old new (report p faults)
 Reports p old new NoMemory = Keeps old new
 Reports p old new TreeFault = Keeps old new
+Reports p old new (TooLarge File n) = Keeps old new × (first_too_long p ≡ Some n)
 Reports p old new (Unbuilt Words) = Keeps old new
-Reports p old new (Unbuilt Signature) = Keeps old new × ((classes : List Class) → ¬ IsSignature p.signature classes)
-Reports p old new (Unbuilt Ruby) =
-    Keeps old new × ((classes : List Class) × IsSignature p.signature classes × ((calls : List Call) → ¬ IsRuby (declared classes) p.ruby calls))
+Reports p old new (Unbuilt Signature) = Keeps old new × (first_too_long p ≡ None) × HasOtherTree p.signature
+Reports p old new (Unbuilt Ruby) = Keeps old new × (first_too_long p ≡ None) × HasOtherRuby p
 
 -- an answer that writes no report leaves the sink as it was, whatever the tree tells of its files
 abbrev pub IsSilent : Option (List ℕ) → Option (List ℕ) → Outcome → Type 0
@@ -44,6 +55,7 @@ IsSilent old new (Found n) = Unit {0}
 IsSilent old new SinkFault = Unit {0}
 IsSilent old new NoMemory = Keeps old new
 IsSilent old new TreeFault = Keeps old new
+IsSilent old new (TooLarge limit n) = Keeps old new
 IsSilent old new (Unbuilt part) = Keeps old new
 
 -- whether the only word is `check`
@@ -63,13 +75,19 @@ status_of (Found n) = 1
 status_of TreeFault = 4
 status_of SinkFault = 6
 status_of NoMemory = 8
+status_of (TooLarge limit n) = 9
 status_of (Unbuilt part) = 10
 
--- what the program writes to standard error, if anything
+-- how a limit is named
+abbrev pub limit_name : Limit → List ℕ
+limit_name File = codes "File"
+
+-- what the program writes to standard error, if anything, without the line's end
 abbrev pub line_of : Outcome → Option (List ℕ)
 line_of Clean = None
 line_of (Found n) = None
 line_of TreeFault = Some (codes "steep: cannot read the project")
 line_of SinkFault = Some (codes "steep: cannot write output")
 line_of NoMemory = Some (codes "steep: out of memory")
+line_of (TooLarge limit n) = Some (joined (codes "steep: limit passed: " ∷ limit_name limit ∷ codes " " ∷ decimal n ∷ []))
 line_of (Unbuilt part) = Some (codes "steep: not built yet")

@@ -1,13 +1,12 @@
 -- Small Ruby texts: each line is empty or calls a method on a new object of a class, as `Foo.new.bar(1, 2)`.
-use Rattle.std.specs.Prelude.{◌≡◌, ◌≤◌, ◌+◌, ℕ, Bool, true, false, not, ◌&&◌, ◌||◌, ◌==◌, nat_le, nat_lt, IsTrue, List, [], ◌∷◌, ◌++◌, length, map, filter, codes, Option, None, Some, is_none, if◌then◌else◌}
+use Rattle.std.specs.Prelude.{◌≡◌, ◌+◌, ℕ, Bool, true, false, not, ◌&&◌, ◌||◌, ◌==◌, nat_le, nat_lt, IsTrue, List, [], ◌∷◌, ◌++◌, length, map, filter, codes, Option, None, Some, is_none, if◌then◌else◌}
 use Rattle.std.specs.List.{list_all, flat_map}
 use Rattle.std.specs.Option.{option_map_or}
 use Rattle.std.specs.Map.{lookup}
 use Rattle.diagnostics.specs.declared.code.Code.TheVariants.{NoMethod}
 use Rattle.diagnostics.specs.declared.diagnostic.Diagnostic.{Diagnostic}
+use Rattle.steep_run.specs.Small.{Known}
 use Rattle.steep_run.specs.Words.{is_upper, is_digit, is_line_end, begins, same_word, is_ascii_word_byte, is_lower_byte, is_keyword}
-use Rattle.steep_run.specs.declared.signature.tree.Class.{Class}
-use Rattle.steep_run.specs.declared.signature.tree.Method.{Method}
 
 -- a line of a text without its ending, and the offset at which it begins
 pub record Line : Type 0 where
@@ -68,16 +67,6 @@ is_plain_call c = (list_all is_ascii_word_byte c.class && begins is_upper c.clas
     && ((list_all is_ascii_word_byte c.word && begins is_lower_byte c.word)
     && (is_mark c.mark && (not (is_keyword (method_name c)) && list_all is_number c.numbers)))
 
--- what a signature declares: each class by name, with its methods by name and the number of parameters of each
-abbrev pub Known : Type 0
-Known = List (List ℕ × List (List ℕ × ℕ))
-
-abbrev pub declared_methods : List Method → List (List ℕ × ℕ)
-declared_methods = map (λ (m : Method). (m.name, length m.parameters))
-
-abbrev pub declared : List Class → Known
-declared = map (λ (c : Class). (c.name, declared_methods c.methods))
-
 -- whether a method of these, if there is one of the name, takes so many numbers
 abbrev pub accepts : List ℕ → ℕ → List (List ℕ × ℕ) → Bool
 accepts method n methods = option_map_or (λ wanted. wanted == n) (lookup (same_word method) methods) true
@@ -93,9 +82,8 @@ lacks known class method = option_map_or (λ methods. is_none (lookup (same_word
 abbrev pub call_fits : Known → Call → Bool
 call_fits known c = fits known c.class (method_name c) (length c.numbers)
 
--- a small Ruby text: it is short, and its lines that aren't empty are these calls, as they are written
+-- a small Ruby text: its lines that aren't empty are these calls, as they are written
 pub record IsRuby (known : Known) (text : List ℕ) (calls : List Call) : Type 0 where
-  pub short : length text ≤ 1048576
   pub written : filled_lines 0 text ≡ map call_line calls
   pub plain : IsTrue (list_all is_plain_call calls)
   pub fit : IsTrue (list_all (call_fits known) calls)

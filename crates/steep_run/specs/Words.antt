@@ -1,8 +1,7 @@
--- Characters and words, as signatures (RBS `docs/syntax.md`) and Ruby texts have them.
-use Rattle.std.specs.Prelude.{ℕ, Bool, false, not, ◌&&◌, ◌||◌, ◌==◌, nat_eq, nat_le, List, [], ◌∷◌, codes}
-use Rattle.std.specs.List.{list_all, list_any}
+-- Bytes and words, as signatures (RBS `docs/syntax.md`) and Ruby texts have them.
+use Rattle.std.specs.Prelude.{ℕ, Bool, false, ◌&&◌, ◌||◌, ◌==◌, nat_eq, nat_le, List, [], ◌∷◌, codes}
+use Rattle.std.specs.List.{list_any}
 use Rattle.std.specs.Cmp.Lexicographic.{pointwise}
-use Rattle.unicode_ident.specs.Ident.{is_xid_continue}
 
 abbrev pub is_upper : ℕ → Bool
 is_upper c = nat_le 65 c && nat_le c 90
@@ -14,10 +13,7 @@ is_digit c = nat_le 48 c && nat_le c 57
 abbrev pub is_line_end : ℕ → Bool
 is_line_end c = c == 10 || c == 13
 
-abbrev pub is_blank : ℕ → Bool
-is_blank c = c == 32 || (c == 9 || is_line_end c)
-
--- whether the first character passes a test
+-- whether the first byte passes a test
 abbrev pub begins : (ℕ → Bool) → List ℕ → Bool
 begins test [] = false
 begins test (c ∷ cs) = test c
@@ -26,23 +22,10 @@ begins test (c ∷ cs) = test c
 abbrev pub same_word : List ℕ → List ℕ → Bool
 same_word = pointwise nat_eq
 
--- a word: letters, digits, `_` and what goes on an identifier past ASCII, and no digit in front
-abbrev pub is_word : List ℕ → Bool
-is_word [] = false
-is_word (c ∷ cs) = not (is_digit c) && (is_xid_continue c && list_all is_xid_continue cs)
-
--- a class's name: it begins with `A` to `Z`
-abbrev pub is_constant : List ℕ → Bool
-is_constant w = is_word w && begins is_upper w
-
 -- whether a word begins as an interface's name: `_` and then `A` to `Z`
 abbrev pub is_interface_name : List ℕ → Bool
 is_interface_name [] = false
 is_interface_name (c ∷ cs) = c == 95 && begins is_upper cs
-
--- any other word
-abbrev pub is_lower_word : List ℕ → Bool
-is_lower_word w = is_word w && not (begins is_upper w || is_interface_name w)
 
 -- whether a method's name may begin with a byte: `a` to `z` or `_`
 abbrev pub is_lower_byte : ℕ → Bool

@@ -1,22 +1,21 @@
-ghost use Rattle.std.specs.Prelude.{◌≡◌, ◌⊎◌, ◌≤◌, ◌<◌, ◌^◌, ◌↔◌, IfSome, IfOk, map, string_bytes, length, codes, false, List};
-ghost use Rattle.diagnostics.specs.declared.diagnostic.Diagnostic.{Diagnostic};
+ghost use Rattle.std.specs.Prelude.{◌≡◌, ◌⊎◌, ◌≤◌, ◌<◌, ◌^◌, ◌↔◌, IfSome, IfOk, None, map, string_bytes, length, codes, false};
+ghost use Rattle.steep_run.specs.declared.faults.Faults.{Faults};
 ghost use Rattle.steep_run.specs.declared.project.Project.{Project};
 ghost use Rattle.ports.specs.Causes.{Rose};
-ghost use Rattle.steep_run.specs.Project.{project_of};
+ghost use Rattle.steep_run.specs.Project.{project_of, first_too_long, count_of};
 ghost use Rattle.steep_run.specs.Report.{Reports, HasFaults, IsSilent, is_check, HasCauses};
-ghost use Rattle.steep_run.specs.Reading.{ReadsSignature, IsChecked, Writes};
+ghost use Rattle.steep_run.specs.Reading.{IsChecked, Writes};
 
-use crate::outcome::{Outcome, Part};
+use crate::faults::Faults;
+use crate::outcome::{Limit, Outcome, Part};
 use crate::plan::{CheckPlan, is_check_alone};
-use crate::project::{Project, read_project};
+use crate::project::{Project, first_too_long, read_project};
 use crate::report::report_text;
-use crate::ruby::{LONGEST, faults};
-use crate::signature::{classes, tokens};
-use crate::table::{ClassTable, class_table};
+use crate::ruby::faults;
+use crate::signature::read_signature;
 use crate::writing::write_all;
-use diagnostics::Diagnostic;
 use ports::{Gate, Sink, Source, Tree, TreeFault};
-use src_text::{Mem, Seq, Text};
+use src_text::{Mem, Text};
 use std::alloc::Global;
 use std::sync::Wait;
 use std::thread::Threads;
@@ -75,9 +74,9 @@ pub fn run_check<R: Threads + Sync, K: Sink, T: Tree>(
     }
 }
 
-/// A law, and no work: a project has one list of faults at most, so that its report is one text.
+/// A law, and no work: a project has one list of faults for each file at most, so that its report is one text.
 pub fn has_one_list_of_faults()
-    ensures { (p : Project) (xs ys : List Diagnostic) → HasFaults p xs → HasFaults p ys → xs ≡ ys }
+    ensures { (p : Project) (xs ys : Faults) → HasFaults p xs → HasFaults p ys → xs ≡ ys }
 {}
 
 // Checks a project, and writes its report.
@@ -88,12 +87,13 @@ fn report_to<K: Sink>(alloc: Global, sink: &mut K, project: &Project) -> Outcome
     ensures tree { ¬ (result ≡ Outcome.TreeFault) }
     ensures cause { result ≡ Outcome.SinkFault → Rose (K.faults sink.old) (K.faults sink.new) ⊎ Rose (K.stalls sink.old) (K.stalls sink.new) }
 {
+    if let Some(length) = first_too_long(project) {
+        return Outcome::TooLarge(Limit::File, length);
+    }
     match checked(alloc, project) {
         Ok(Verdict::NoSignature) => Outcome::Unbuilt(Part::Signature),
         Ok(Verdict::NoRuby) => Outcome::Unbuilt(Part::Ruby),
-        Ok(Verdict::Faults(faults)) => {
-            write_report(alloc, sink, project.ruby.as_str(), faults.as_slice())
-        }
+        Ok(Verdict::Checked(faults)) => write_report(alloc, sink, project, &faults),
         Err(_) => Outcome::NoMemory,
     }
 }
@@ -101,58 +101,44 @@ fn report_to<K: Sink>(alloc: Global, sink: &mut K, project: &Project) -> Outcome
 /// What the texts of a project are found to be.
 #[derive(Debug, Drop)]
 pub enum Verdict {
-    /// The signature isn't small.
+    /// The signature has a tree that isn't small.
     NoSignature,
-    /// The signature is, and the Ruby text isn't.
+    /// It has none such, and the Ruby text isn't small.
     NoRuby,
-    /// Both are, with these faults.
-    Faults(Seq<Diagnostic>),
+    /// Both are checked, with these faults.
+    Checked(Faults),
 }
 
 fn checked(alloc: Global, project: &Project) -> Mem<Verdict>
+    requires { first_too_long project.now ≡ None }
     ensures { IfOk result (IsChecked project.now) }
 {
-    let known = match known_classes(alloc, project.signature.as_str())? {
-        Some(known) => known,
+    let found = match read_signature(alloc, project.signature.as_str())? {
+        Some(found) => found,
         None => return Ok(Verdict::NoSignature),
     };
-    match faults(alloc, &known, project.ruby.as_str())? {
-        Some(faults) => Ok(Verdict::Faults(faults)),
+    match faults(alloc, &found.known, project.ruby.as_str())? {
+        Some(ruby) => Ok(Verdict::Checked(Faults {
+            ruby,
+            signature: found.faults,
+        })),
         None => Ok(Verdict::NoRuby),
     }
 }
 
-// What a small signature declares.
-fn known_classes(alloc: Global, signature: &str) -> Mem<Option<ClassTable>>
-    ensures { IfOk result (ReadsSignature signature.now) }
-{
-    if signature.len() > LONGEST {
-        return Ok(None);
-    }
-    let tokens = match tokens(alloc, signature)? {
-        Some(tokens) => tokens,
-        None => return Ok(None),
-    };
-    let classes = match classes(alloc, tokens.as_slice())? {
-        Some(classes) => classes,
-        None => return Ok(None),
-    };
-    class_table(alloc, classes.as_slice())
-}
-
-fn write_report<K: Sink>(alloc: Global, sink: &mut K, ruby: &str, faults: &[Diagnostic]) -> Outcome
-    requires { length ruby.now < 2 ^ 32 }
-    ensures report { Writes ruby.now faults.now (K.held sink.old) (K.held sink.new) result }
+fn write_report<K: Sink>(alloc: Global, sink: &mut K, project: &Project, faults: &Faults) -> Outcome
+    requires { first_too_long project.now ≡ None }
+    ensures report { Writes project.now faults.now (K.held sink.old) (K.held sink.new) result }
     ensures cause { result ≡ Outcome.SinkFault → Rose (K.faults sink.old) (K.faults sink.new) ⊎ Rose (K.stalls sink.old) (K.stalls sink.new) }
 {
-    let Ok(text) = report_text(alloc, ruby, faults) else {
+    let Ok(text) = report_text(alloc, project, faults) else {
         return Outcome::NoMemory;
     };
     if write_all(sink, text.as_str().as_bytes()).is_err() {
         return Outcome::SinkFault;
     }
-    if faults.is_empty() {
-        return Outcome::Clean;
+    match faults.count() {
+        0 => Outcome::Clean,
+        count => Outcome::Found(count),
     }
-    Outcome::Found(faults.len() as u64)
 }

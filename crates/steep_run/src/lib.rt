@@ -5,16 +5,17 @@
 #![tactic(auto)]
 
 mod check;
+mod faults;
 mod outcome;
 mod plan;
 mod project;
 mod report;
 mod ruby;
 mod signature;
+mod small;
 mod table;
-mod words;
 mod writing;
 
 pub use check::{has_one_list_of_faults, run, run_check};
-pub use outcome::{Outcome, Part};
+pub use outcome::{Limit, Outcome, Part};
 pub use plan::CheckPlan;

@@ -1,4 +1,8 @@
-ghost use Rattle.std.specs.Prelude.{◌≡◌};
+ghost use Rattle.std.specs.Prelude.{◌≡◌, IfOk, Some};
+ghost use Rattle.steep_run.specs.Report.{line_of};
+
+use src_text::{Mem, Text};
+use std::alloc::Global;
 
 /// A part of the program that isn't built yet.
 #[derive(Clone, Copy, Debug, PartialEq, Eq)]
@@ -11,6 +15,13 @@ pub enum Part {
     Ruby,
 }
 
+/// What a project may have no more of.
+#[derive(Clone, Copy, Debug, PartialEq, Eq)]
+pub enum Limit {
+    /// Bytes of one file, at most 1,048,576.
+    File,
+}
+
 /// What a run answers.
 #[derive(Clone, Copy, Debug, PartialEq, Eq)]
 pub enum Outcome {
@@ -18,6 +29,8 @@ pub enum Outcome {
     NoMemory,
     /// The tree failed. Nothing is written.
     TreeFault,
+    /// A limit is passed: there are so many of what it counts. Nothing is written.
+    TooLarge(Limit, u64),
     /// A part that isn't built is wanted. Nothing is written.
     Unbuilt(Part),
     /// The sink failed or took nothing. A part of the report may be written.
@@ -29,8 +42,7 @@ pub enum Outcome {
 }
 
 impl Outcome {
-    ghost use Rattle.std.specs.Option.{option_map};
-    ghost use Rattle.steep_run.specs.Report.{status_of, line_of};
+    ghost use Rattle.steep_run.specs.Report.{status_of};
 
     /// The status that the program ends with.
     pub fn status(self) -> u8
@@ -42,20 +54,48 @@ impl Outcome {
             Outcome::TreeFault => 4,
             Outcome::SinkFault => 6,
             Outcome::NoMemory => 8,
+            Outcome::TooLarge(_, _) => 9,
             Outcome::Unbuilt(_) => 10,
         }
     }
 
     /// The line for standard error, without its ending, if there is one.
-    pub fn line(self) -> Option<&'static str>
-        ensures { option_map (λ line. line.now) result ≡ line_of self }
+    pub fn line(self, alloc: Global) -> Mem<Option<Text>>
+        ensures { IfOk result (λ line. line ≡ line_of self) }
     {
         match self {
-            Outcome::Clean | Outcome::Found(_) => None,
-            Outcome::TreeFault => Some("steep: cannot read the project"),
-            Outcome::SinkFault => Some("steep: cannot write output"),
-            Outcome::NoMemory => Some("steep: out of memory"),
-            Outcome::Unbuilt(_) => Some("steep: not built yet"),
+            Outcome::Clean | Outcome::Found(_) => Ok(None),
+            Outcome::TreeFault => line_alone(alloc, "steep: cannot read the project"),
+            Outcome::SinkFault => line_alone(alloc, "steep: cannot write output"),
+            Outcome::NoMemory => line_alone(alloc, "steep: out of memory"),
+            Outcome::TooLarge(limit, number) => limit_line(alloc, limit, number),
+            Outcome::Unbuilt(_) => line_alone(alloc, "steep: not built yet"),
+        }
+    }
+}
+
+fn line_alone(alloc: Global, line: &str) -> Mem<Option<Text>>
+    ensures { IfOk result (λ made. made ≡ Some line.now) }
+{
+    Ok(Some(Text::from_str(alloc, line)?))
+}
+
+fn limit_line(alloc: Global, limit: Limit, number: u64) -> Mem<Option<Text>>
+    ensures { IfOk result (λ made. made ≡ line_of (Outcome.TooLarge limit number)) }
+{
+    let name = limit.name();
+    let line = format!(in alloc; "steep: limit passed: {name} {number}")?;
+    Ok(Some(Text::from_string(line)))
+}
+
+impl Limit {
+    ghost use Rattle.steep_run.specs.Report.{limit_name};
+
+    fn name(self) -> &'static str
+        ensures { result.now ≡ limit_name self }
+    {
+        match self {
+            Limit::File => "File",
         }
     }
 }

@@ -1,16 +1,19 @@
-ghost use Rattle.std.specs.Prelude.{◌≡◌, IfOk, IfSome};
+ghost use Rattle.std.specs.Prelude.{◌≡◌, ◌≤◌, IfOk, IfSome, None};
 ghost use Rattle.ports.specs.Tree.{bytes_at, HasTreeCause};
-ghost use Rattle.steep_run.specs.Project.{project_of, rooted, text_of, without_slashes};
+ghost use Rattle.steep_run.specs.Project.{project_of, rooted, text_of, without_slashes, first_too_long};
 
 use ports::{Content, Tree, TreeFault};
 use src_text::{Mem, Text};
 use std::alloc::Global;
 
-// The path of the signature file, below the root.
-const SIGNATURE: &str = "sig/a.rbs";
+/// The path of the signature file, below the root.
+pub const SIGNATURE: &str = "sig/a.rbs";
 
 /// The path of the Ruby file, below the root.
 pub const RUBY: &str = "lib/a.rb";
+
+// The greatest length of a text, in bytes.
+const LONGEST: usize = 1_048_576;
 
 /// The texts of the project's two files.
 #[derive(Debug, Drop)]
@@ -28,6 +31,21 @@ pub fn read_project<T: Tree>(alloc: Global, tree: &mut T, root: &str) -> Result<
     let signature = read_text(alloc, tree, root, SIGNATURE)?;
     let ruby = read_text(alloc, tree, root, RUBY)?;
     Ok(Project { signature, ruby })
+}
+
+/// The length of the first text by path that is longer than it may be, if there is one.
+pub fn first_too_long(project: &Project) -> Option<u64>
+    ensures { result ≡ first_too_long project.now }
+{
+    let ruby = project.ruby.as_str().len();
+    if ruby > LONGEST {
+        return Some(ruby as u64);
+    }
+    let signature = project.signature.as_str().len();
+    if signature > LONGEST {
+        return Some(signature as u64);
+    }
+    None
 }
 
 // The text that stands at a path below the root, which is empty where nothing does.

@@ -5,4 +5,4 @@ mod line;
 mod numbers;
 mod text;
 
-pub use text::{LONGEST, faults};
+pub use text::faults;

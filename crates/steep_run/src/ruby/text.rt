@@ -13,16 +13,11 @@ use src_text::{Mem, Seq, Span, Text};
 use std::alloc::Global;
 use std::str;
 
-/// The greatest length of a small text, in bytes.
-pub const LONGEST: usize = 1_048_576;
-
 /// The faults of a Ruby text, or none where the text isn't small.
 pub fn faults(alloc: Global, known: &ClassTable, text: &str) -> Mem<Option<Seq<Diagnostic>>>
+    requires { length text.now ≤ 1048576 }
     ensures { IfOk result (ReadsRuby known.now text.now) }
 {
-    if text.len() > LONGEST {
-        return Ok(None);
-    }
     faults_among(alloc, known, text.as_bytes())
 }
 
@@ -111,14 +106,11 @@ fn ascii_text(bytes: &[u8]) -> &str
 }
 
 // The name of which these are the ASCII characters.
-fn named(alloc: Global, bytes: &[u8]) -> Mem<Seq<char>>
+fn named(alloc: Global, bytes: &[u8]) -> Mem<Text>
+    requires { IsAscii bytes.now }
     ensures { IfOk result (λ name. name ≡ bytes.now) }
 {
-    let mut name = Seq::new(alloc);
-    for byte in bytes {
-        name.push(char::from(*byte))?;
-    }
-    Ok(name)
+    Text::from_str(alloc, ascii_text(bytes))
 }
 
 #[tactic(auto, unfolding(crate::specs::Ruby::fault_text))]

@@ -1,4 +1,4 @@
-use Rattle.steep_run.proofs.KnownLemmas.{one_list}
+use Rattle.steep_run.proofs.ProjectLemmas.{one_list}
 use Rattle.steep_run.proofs.check.has_one_list_of_faults.Goals as goal
 
 pub returns : goal.returns

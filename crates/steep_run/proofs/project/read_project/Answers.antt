@@ -1,4 +1,4 @@
-use Rattle.steep_run.proofs.KnownLemmas.{read_both}
+use Rattle.steep_run.proofs.ProjectLemmas.{read_both}
 use Rattle.steep_run.proofs.project.read_project.Goals as goal
 
 pub returns-clause-project : goal.returns-clause-project
