@@ -1,0 +1,14 @@
+use Rattle.std.proofs.Common.{◌≡◌, ◌≤◌, length}
+use Rattle.sig_rules.specs.Names.{candidates, first_that, is_head, up_to}
+use Rattle.name_resolver.specs.Noting.{NotesBefore}
+use Rattle.name_resolver.proofs.noting.note_heads.Given as goal
+
+abbrev pub invariant-loop-enclosing : goal.invariant-loop-enclosing
+invariant-loop-enclosing l = record {
+  within : length l.enclosing ≤ length l.fn.context;
+  found : first_that (is_head l.table l.rest) (candidates l.enclosing l.head) ≡ first_that (is_head l.table l.rest) (candidates l.fn.context l.head);
+  noted : NotesBefore (up_to (is_head l.table l.rest) (candidates l.fn.context l.head)) (up_to (is_head l.table l.rest) (candidates l.enclosing l.head)) l.fn.noted l.noted;
+}
+
+abbrev pub decreases-loop-enclosing : goal.decreases-loop-enclosing
+decreases-loop-enclosing l = length l.enclosing

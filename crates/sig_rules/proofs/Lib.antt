@@ -1,0 +1,6 @@
+pub mod EntryLemmas
+pub mod NameLemmas
+pub mod OrderLemmas
+pub mod SortingLemmas
+pub mod TableLemmas
+pub mod WalkLemmas

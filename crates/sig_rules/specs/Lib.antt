@@ -1,0 +1,10 @@
+pub mod Declarations
+pub mod Given
+pub mod Instances
+pub mod Lines
+pub mod Methods
+pub mod Names
+pub mod Types
+pub mod Sorted
+pub mod Limits
+pub mod Worlds
