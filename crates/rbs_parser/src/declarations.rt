@@ -9,6 +9,7 @@ ghost use Rattle.rbs_parser.specs.Nests.{Nests};
 ghost use Rattle.rbs_parser.specs.Reading.{Reads, ReadsIn};
 ghost use Rattle.rbs_parser.specs.declared.refusal.Refusal.TheVariants as refusal;
 
+use crate::lists::push;
 use crate::members::Room;
 use crate::types::text_of;
 use crate::{Cursor, Refusal, Set};
@@ -361,7 +362,7 @@ impl<D: Fn(Global, &mut Cursor<'_>, usize, usize) -> Result<Decl, Refusal>> Decl
         let mut all = Seq::new(self.room.alloc);
         'items: while begins_member(cursor) {
             let next = self.member(cursor)?;
-            all.push(next)?;
+            push(self.room.alloc, &mut all, next)?;
         }
         Ok(all)
     }

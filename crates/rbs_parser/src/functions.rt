@@ -13,6 +13,7 @@ ghost use Rattle.rbs_parser.specs.Parameters.{small_name, variable_name, given_a
 ghost use Rattle.rbs_parser.specs.declared.functions.Parameter.TheVariants as parameter;
 ghost use Rattle.rbs_parser.specs.declared.refusal.Refusal.TheVariants as refusal;
 
+use crate::gathered::Gathered;
 use crate::lists::push;
 use crate::types::{Types, begins_type};
 use crate::{Cursor, Refusal, Set};
@@ -24,7 +25,7 @@ use std::alloc::Global;
 
 /// A parameter with the place that it was given in the list.
 #[derive(Drop)]
-enum Parameter {
+pub enum Parameter {
     Required(Param),
     OptionalOne(Param),
     Rest(Param),
@@ -64,7 +65,7 @@ fn question(cursor: &mut Cursor<'_>) -> Result<bool, Refusal>
     Ok(true)
 }
 
-fn no_params(alloc: Global) -> Parameters
+pub fn no_params(alloc: Global) -> Parameters
     ensures { result ≡ spec.no_params }
 {
     Parameters {
@@ -79,7 +80,7 @@ fn no_params(alloc: Global) -> Parameters
 
 /// One more parameter behind the others.
 #[tactic(auto, unfolding(crate::specs::Parameters::added, crate::specs::Parameters::given_as))]
-fn add(alloc: Global, all: &mut Parameters, next: Parameter) -> Mem<()>
+pub fn add(alloc: Global, all: &mut Parameters, next: Parameter) -> Mem<()>
     ensures { OnOk result (all.new ≡ added all.old (given_as next)) }
 {
     match next {
@@ -102,14 +103,27 @@ fn add(alloc: Global, all: &mut Parameters, next: Parameter) -> Mem<()>
 }
 
 /// The parameters with one more behind them.
-fn with_param(alloc: Global, mut all: Parameters, next: Parameter) -> Mem<Parameters>
+fn with_param(alloc: Global, mut all: Gathered, next: Parameter) -> Mem<Gathered>
     ensures { IfOk result (λ r. r ≡ added all (given_as next)) }
 {
-    let put = add(alloc, &mut all, next);
+    let put = all.add(alloc, next);
     match put {
         Ok(()) => Ok(all),
         Err(full) => {
             discard(all);
+            Err(full)
+        }
+    }
+}
+
+/// The parameters of a list that begins with this one.
+fn some_param(alloc: Global, first: Parameter) -> Mem<Gathered>
+    ensures { IfOk result (λ r. r ≡ added spec.no_params (given_as first)) }
+{
+    match Gathered::none(alloc) {
+        Ok(none) => with_param(alloc, none, first),
+        Err(full) => {
+            discard(first);
             Err(full)
         }
     }
@@ -377,12 +391,12 @@ impl<
         self.param_at(cursor, stage)
     }
 
-    fn params(&self, cursor: &mut Cursor<'_>) -> Result<Parameters, Refusal>
+    fn params(&self, cursor: &mut Cursor<'_>) -> Result<Gathered, Refusal>
         requires { Nests Rule.ty self.now.marked self.now.functions (T.pre self.now.ty) (T.post self.now.ty) }
         ensures { ReadsIn self.now.marked self.now.functions spec.params cursor.old result cursor.new }
     {
         let (first, start) = self.first_param(cursor)?;
-        let mut all = with_param(self.alloc, no_params(self.alloc), first)?;
+        let mut all = some_param(self.alloc, first)?;
         let mut stage = start;
         'items: while leads(cursor, stage) {
             let found = self.next_param(cursor, stage);
@@ -393,24 +407,24 @@ impl<
         Ok(all)
     }
 
-    fn some_params(&self, cursor: &mut Cursor<'_>) -> Result<Parameters, Refusal>
+    fn some_params(&self, cursor: &mut Cursor<'_>) -> Result<Gathered, Refusal>
         requires { Nests Rule.ty self.now.marked self.now.functions (T.pre self.now.ty) (T.post self.now.ty) }
         ensures { ReadsIn self.now.marked self.now.functions (alt spec.params (eps spec.no_params)) cursor.old result cursor.new }
     {
         if begins_params(cursor) {
             self.params(cursor)
         } else {
-            Ok(no_params(self.alloc))
+            Ok(Gathered::none(self.alloc)?)
         }
     }
 
     #[tactic(auto, unfolding(rbs_grammar::specs::Functions::param_list))]
-    fn param_list(&self, cursor: &mut Cursor<'_>) -> Result<Parameters, Refusal>
+    fn param_list(&self, cursor: &mut Cursor<'_>) -> Result<Gathered, Refusal>
         requires { Nests Rule.ty self.now.marked self.now.functions (T.pre self.now.ty) (T.post self.now.ty) }
         ensures { ReadsIn self.now.marked self.now.functions spec.param_list cursor.old result cursor.new }
     {
         if !cursor.sees(Set::One(Kind::LeftParen)) {
-            return Ok(no_params(self.alloc));
+            return Ok(Gathered::none(self.alloc)?);
         }
         cursor.expect(Set::One(Kind::LeftParen))?;
         let found = self.some_params(cursor)?;
@@ -429,7 +443,7 @@ impl<
         self.opt(cursor)
     }
 
-    fn params_and_result(&self, cursor: &mut Cursor<'_>) -> Result<(Parameters, Ty), Refusal>
+    fn params_and_result(&self, cursor: &mut Cursor<'_>) -> Result<(Gathered, Ty), Refusal>
         requires types { Nests Rule.ty self.now.marked self.now.functions (T.pre self.now.ty) (T.post self.now.ty) }
         requires functions { Nests Rule.function self.now.marked self.now.functions (F.pre self.now.function) (F.post self.now.function) }
         ensures { ReadsIn self.now.marked self.now.functions (both spec.param_list spec.result) cursor.old result cursor.new }
@@ -452,7 +466,7 @@ impl<
         both(block, result)
     }
 
-    fn in_braces(&self, cursor: &mut Cursor<'_>) -> Result<(Parameters, Ty), Refusal>
+    fn in_braces(&self, cursor: &mut Cursor<'_>) -> Result<(Gathered, Ty), Refusal>
         requires types { Nests Rule.ty self.now.marked self.now.functions (T.pre self.now.ty) (T.post self.now.ty) }
         requires functions { Nests Rule.function self.now.marked self.now.functions (F.pre self.now.function) (F.post self.now.function) }
         ensures { ReadsIn self.now.marked self.now.functions (behind kind.LeftBrace (before (both spec.param_list spec.result) kind.RightBrace)) cursor.old result cursor.new }
@@ -474,7 +488,7 @@ impl<
         let (all, result) = self.in_braces(cursor)?;
         Ok(BlockType {
             required: !optional_block,
-            fun: function_of(self.alloc, all, None, result),
+            fun: function_of(self.alloc, all.into_parameters(), None, result),
         })
     }
 
@@ -500,7 +514,7 @@ impl<
         let found = self.param_list(cursor)?;
         let end = self.block_and_result(cursor);
         let (all, (block, result)) = both(found, end)?;
-        Ok(function_of(self.alloc, all, block, result))
+        Ok(function_of(self.alloc, all.into_parameters(), block, result))
     }
 }
 

@@ -8,6 +8,7 @@
 mod cursor;
 mod declarations;
 mod functions;
+mod gathered;
 mod lists;
 mod members;
 mod names;
