@@ -3,4 +3,5 @@ pub mod NameLemmas
 pub mod OrderLemmas
 pub mod SortingLemmas
 pub mod TableLemmas
+pub mod TurnLemmas
 pub mod WalkLemmas

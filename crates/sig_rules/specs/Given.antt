@@ -17,30 +17,21 @@ use Rattle.rbs_tree.specs.declared.decls.Decl.TheOpen.{Member-F}
 use Rattle.rbs_tree.specs.declared.decls.Decl.TheViews.{out-Member}
 use Rattle.rbs_tree.specs.Substitution.{subst}
 use Rattle.sig_rules.specs.declared.files.Declared.{Declared}
+use Rattle.sig_rules.specs.declared.given.What.{What}
+use Rattle.sig_rules.specs.declared.given.What.TheVariants.{Whole, Further, AliasOf}
+use Rattle.sig_rules.specs.declared.given.GivenMethod.{GivenMethod}
+use Rattle.sig_rules.specs.declared.given.GivenVariable.{GivenVariable}
+use Rattle.sig_rules.specs.declared.line.Applied.{Applied}
 use Rattle.sig_rules.specs.declared.line.Kind.{Kind}
 use Rattle.sig_rules.specs.declared.line.Kind.TheVariants.{Instance, Singleton}
 use Rattle.sig_rules.specs.declared.method.Visibility.{Visibility}
 use Rattle.sig_rules.specs.declared.method.Visibility.TheVariants.{Public, Private}
 use Rattle.sig_rules.specs.Declarations.{entries}
 use Rattle.sig_rules.specs.Types.{param_names, first_params, meant, meant_method}
-use Rattle.sig_rules.specs.Lines.{Applied, inside, members, itself}
+use Rattle.sig_rules.specs.Lines.{inside, members, itself}
 use Rattle.sig_rules.specs.Instances.{instance}
 
 -- ---- methods
-
--- how a method is declared
-pub data What : Type 0 where
-  -- by all its overloads
-  whole : List MethodType → What
-  -- by further overloads, before those that there are
-  further : List MethodType → What
-  -- as another name of a method
-  alias_of : List ℕ → What
-
-pub record GivenMethod : Type 0 where
-  pub name : List ℕ
-  pub visible : Visibility
-  pub what : What
 
 -- whether what is declared on a side is a method of this kind
 abbrev pub is_on_side : Kind → Side → Bool
@@ -85,10 +76,10 @@ simple params result = roll-MethodType (record {
 })
 
 abbrev pub reader : List ℕ → Visibility → Ty → GivenMethod
-reader name visible ty = record { name = name; visible = visible; what = whole (simple [] ty ∷ []) }
+reader name visible ty = record { name = name; visible = visible; what = Whole (simple [] ty ∷ []) }
 
 abbrev pub writer : List ℕ → Visibility → Ty → GivenMethod
-writer name visible ty = record { name = name ++ codes "="; visible = visible; what = whole (simple ((Some name, ty) ∷ []) ty ∷ []) }
+writer name visible ty = record { name = name ++ codes "="; visible = visible; what = Whole (simple ((Some name, ty) ∷ []) ty ∷ []) }
 
 abbrev pub only_if : {A : Type 0} → Bool → A → List A
 only_if true x = x ∷ []
@@ -99,8 +90,8 @@ abbrev pub given_methods_of : Kind → Visibility → Member → List GivenMetho
 given_methods_of kind section m = layer (out-Member m)
   where
     method : Bool → List MethodType → What
-    method true overloads = further overloads
-    method false overloads = whole overloads
+    method true overloads = Further overloads
+    method false overloads = Whole overloads
 
     layer : Member-F Decl Member → List GivenMethod
     layer (Member-F.Def name at whose public overloads more) =
@@ -108,7 +99,7 @@ given_methods_of kind section m = layer (out-Member m)
     layer (Member-F.Attr name at whose public reads writes variable ty) =
         only_if (is_on_side kind whose && reads) (reader name (visibility kind name whose (by_word public section)) ty)
         ++ only_if (is_on_side kind whose && writes) (writer name (visibility kind (name ++ codes "=") whose (by_word public section)) ty)
-    layer (Member-F.AliasOf new_name at old_name whose) = only_if (is_on_side kind whose) (record { name = new_name; visible = Public; what = alias_of old_name })
+    layer (Member-F.AliasOf new_name at old_name whose) = only_if (is_on_side kind whose) (record { name = new_name; visible = Public; what = AliasOf old_name })
     layer _ = []
 
 -- the methods of the members of a declaration, which begins with a public section
@@ -118,18 +109,18 @@ given_methods_in kind section (m ∷ ms) = given_methods_of kind section m ++ gi
 
 -- with a function of each method type
 abbrev pub map_what : (MethodType → MethodType) → What → What
-map_what f (whole overloads) = whole (map f overloads)
-map_what f (further overloads) = further (map f overloads)
-map_what f (alias_of name) = alias_of name
+map_what f (Whole overloads) = Whole (map f overloads)
+map_what f (Further overloads) = Further (map f overloads)
+map_what f (AliasOf name) = AliasOf name
 
 -- what a method type of a declaration means: in the first declaration's names for the type parameters, and then by the arguments
 abbrev pub meant_overload : List Declared → Applied → Declared → MethodType → MethodType
 meant_overload all a d m =
-    instance (first_params all a.path) a.args (instance (param_names d.decl) (itself all a.path).args (meant_method all (inside a.path d) (param_names d.decl) m))
+    instance (first_params all a.name.path) a.args (instance (param_names d.decl) (itself all a.name.path).args (meant_method all (inside a.name.path d) (param_names d.decl) m))
 
 -- the methods of this kind that the declarations of a name give
 abbrev pub given_methods : List Declared → Applied → Kind → List GivenMethod
-given_methods all a kind = flat_map in_entry (entries all a.path)
+given_methods all a kind = flat_map in_entry (entries all a.name.path)
   where
     with_meaning : Declared → GivenMethod → GivenMethod
     with_meaning d g = record { name = g.name; visible = g.visible; what = map_what (meant_overload all a d) g.what }
@@ -138,10 +129,6 @@ given_methods all a kind = flat_map in_entry (entries all a.path)
     in_entry d = map (with_meaning d) (given_methods_in kind Public (members d.decl))
 
 -- ---- variables
-
-pub record GivenVariable : Type 0 where
-  pub name : List ℕ
-  pub ty : Ty
 
 -- whether a variable of a scope is seen on a side
 abbrev pub is_seen : Kind → VarScope → Bool
@@ -174,10 +161,10 @@ given_variables_of kind m = layer (out-Member m)
 
 -- the variables of this kind that the declarations of a name give
 abbrev pub given_variables : List Declared → Applied → Kind → List GivenVariable
-given_variables all a kind = flat_map in_entry (entries all a.path)
+given_variables all a kind = flat_map in_entry (entries all a.name.path)
   where
     with_meaning : Declared → GivenVariable → GivenVariable
-    with_meaning d v = record { name = v.name; ty = subst (first_params all a.path) a.args (subst (param_names d.decl) (itself all a.path).args (meant all (inside a.path d) (param_names d.decl) v.ty)) }
+    with_meaning d v = record { name = v.name; ty = subst (first_params all a.name.path) a.args (subst (param_names d.decl) (itself all a.name.path).args (meant all (inside a.name.path d) (param_names d.decl) v.ty)) }
 
     in_entry : Declared → List GivenVariable
     in_entry d = map (with_meaning d) (flat_map (given_variables_of kind) (members d.decl))

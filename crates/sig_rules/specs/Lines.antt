@@ -11,32 +11,30 @@ use Rattle.rbs_tree.specs.declared.decls.Decl.TheOpen.{Decl-F, Member-F}
 use Rattle.rbs_tree.specs.declared.decls.Decl.TheViews.{out-Decl, out-Member}
 use Rattle.rbs_tree.specs.Substitution.{subst}
 use Rattle.sig_rules.specs.declared.files.Declared.{Declared}
+use Rattle.sig_rules.specs.declared.sort.Sort.{Sort}
+use Rattle.sig_rules.specs.declared.sort.Sort.TheVariants as is
 use Rattle.sig_rules.specs.declared.line.Kind.{Kind}
 use Rattle.sig_rules.specs.declared.line.Kind.TheVariants.{Instance, Singleton}
+use Rattle.sig_rules.specs.declared.line.Applied.{Applied}
 use Rattle.sig_rules.specs.declared.line.Line.{Line}
 use Rattle.sig_rules.specs.Declarations.{Path, same_path, full_name, entries, somes}
 use Rattle.sig_rules.specs.Names.{resolve}
-use Rattle.sig_rules.specs.Types.{Sort, a_class, a_module, an_interface, sort, param_names, first_params, fitted_to, meant}
+use Rattle.sig_rules.specs.Types.{sort, param_names, first_params, fitted_to, meant}
 
 -- ---- what stands in declarations
 
--- a class, a module or an interface with its arguments
-pub record Applied : Type 0 where
-  pub path : Path
-  pub args : List Ty
-
 -- which sorts may stand somewhere
 abbrev pub is_class : Sort → Bool
-is_class a_class = true
+is_class is.Class = true
 is_class _ = false
 
 abbrev pub is_mixin : Sort → Bool
-is_mixin a_module = true
-is_mixin an_interface = true
+is_mixin is.Module = true
+is_mixin is.Interface = true
 is_mixin _ = false
 
 abbrev pub is_self_type : Sort → Bool
-is_self_type a_class = true
+is_self_type is.Class = true
 is_self_type s = is_mixin s
 
 -- what is referred to among enclosing names and type parameters, if it is of a sort that may stand there
@@ -45,26 +43,26 @@ applied all fits context vars r = by_path (resolve all context r.name)
   where
     by_path : Option Path → Option Applied
     by_path None = None
-    by_path (Some path) = if fits (sort all path) then Some (record { path = path; args = fitted_to all path (map (meant all context vars) r.args) }) else None
+    by_path (Some path) = if fits (sort all path) then Some (record { name = full_name path; args = fitted_to all path (map (meant all context vars) r.args) }) else None
 
 -- with types in place of type parameters
 abbrev pub with_args : List (List ℕ) → List Ty → Applied → Applied
-with_args vars args a = record { path = a.path; args = map (subst vars args) a.args }
+with_args vars args a = record { name = a.name; args = map (subst vars args) a.args }
 
 -- a name with its own type parameters, as its first declaration that counts has them
 abbrev pub itself : List Declared → Path → Applied
-itself all path = record { path = path; args = map t.Var (first_params all path) }
+itself all path = record { name = full_name path; args = map t.Var (first_params all path) }
 
 -- Those that some references of a name's declarations refer to. Each declaration may have its own names for the type parameters, which
 -- stand for those of the first.
 abbrev pub all_applied : List Declared → (Sort → Bool) → (Declared → List TypeName) → (Decl → List Ref) → Applied → List Applied
-all_applied all fits context refs a = flat_map in_entry (entries all a.path)
+all_applied all fits context refs a = flat_map in_entry (entries all a.name.path)
   where
     by_first : Declared → Applied → Applied
-    by_first d = with_args (param_names d.decl) (itself all a.path).args
+    by_first d = with_args (param_names d.decl) (itself all a.name.path).args
 
     in_entry : Declared → List Applied
-    in_entry d = map (λ (r : Applied). with_args (first_params all a.path) a.args (by_first d r)) (somes (map (applied all fits (context d) (param_names d.decl)) (refs d.decl)))
+    in_entry d = map (λ (r : Applied). with_args (first_params all a.name.path) a.args (by_first d r)) (somes (map (applied all fits (context d) (param_names d.decl)) (refs d.decl)))
 
 -- among which names stands what is in a declaration of this name: its own is the innermost
 abbrev pub inside : Path → Declared → List TypeName
@@ -123,7 +121,7 @@ self_types_of decl = layer (out-Decl decl)
 
 -- the modules and interfaces that are mixed in by such members, last first
 abbrev pub mixed_in : List Declared → (Member → List Ref) → Applied → List Applied
-mixed_in all refs a = reverse (all_applied all is_mixin (inside a.path) (λ d. flat_map refs (members d)) a)
+mixed_in all refs a = reverse (all_applied all is_mixin (inside a.name.path) (λ d. flat_map refs (members d)) a)
 
 abbrev pub object : Path
 object = codes "Object" ∷ []
@@ -132,11 +130,11 @@ abbrev pub basic_object : Path
 basic_object = codes "BasicObject" ∷ []
 
 abbrev pub plain : Path → Applied
-plain path = record { path = path; args = [] }
+plain path = record { name = full_name path; args = [] }
 
 -- the superclass: the first that is named and is a class, or else `::Object`; `::BasicObject` never has one
 abbrev pub superclasses : List Declared → Applied → List Applied
-superclasses all a = if same_path a.path basic_object then [] else first_or (all_applied all is_class outside superclass_of a)
+superclasses all a = if same_path a.name.path basic_object then [] else first_or (all_applied all is_class outside superclass_of a)
   where
     first_or : List Applied → List Applied
     first_or (s ∷ ss) = s ∷ []
@@ -144,7 +142,7 @@ superclasses all a = if same_path a.path basic_object then [] else first_or (all
 
 -- what the self types of a module are, or else `::Object`
 abbrev pub self_types : List Declared → Applied → List Applied
-self_types all a = or_object (all_applied all is_self_type (inside a.path) self_types_of a)
+self_types all a = or_object (all_applied all is_self_type (inside a.name.path) self_types_of a)
   where
     or_object : List Applied → List Applied
     or_object [] = plain object ∷ []
@@ -152,19 +150,19 @@ self_types all a = or_object (all_applied all is_self_type (inside a.path) self_
 
 -- whose lines of instances stand behind what a name itself brings
 abbrev pub behind_instances : List Declared → Applied → List Applied
-behind_instances all a = by_sort (sort all a.path)
+behind_instances all a = by_sort (sort all a.name.path)
   where
     by_sort : Sort → List Applied
-    by_sort a_class = superclasses all a
-    by_sort a_module = self_types all a
+    by_sort is.Class = superclasses all a
+    by_sort is.Module = self_types all a
     by_sort _ = []
 
 -- whose lines of singletons do; a singleton has no arguments, so each stands with its own type parameters
 abbrev pub behind_singletons : List Declared → Applied → List Applied
-behind_singletons all a = by_sort (sort all a.path)
+behind_singletons all a = by_sort (sort all a.name.path)
   where
     by_sort : Sort → List Applied
-    by_sort a_class = map (λ (s : Applied). itself all s.path) (superclasses all a)
+    by_sort is.Class = map (λ (s : Applied). itself all s.name.path) (superclasses all a)
     by_sort _ = []
 
 -- ---- lines
@@ -201,23 +199,23 @@ is_on trail path kind = list_any (λ (p : Path × Kind). same_path p.0 path && s
 -- what a module or an interface brings where it is mixed in: what it prepends, itself, and what it includes
 abbrev pub brought : ℕ → List Declared → Trail → Applied → Line
 brought zero all trail a = left_out
-brought (suc n) all trail a = if is_on trail a.path Instance then left_out else
-    (let further = (a.path, Instance) ∷ trail in
+brought (suc n) all trail a = if is_on trail a.name.path Instance then left_out else
+    (let further = (a.name.path, Instance) ∷ trail in
     followed_by (in_a_row (map (brought n all further) (mixed_in all prepend_of a)))
-    (followed_by (one_step a.path Instance a.args) (in_a_row (map (brought n all further) (mixed_in all include_of a)))))
+    (followed_by (one_step a.name.path Instance a.args) (in_a_row (map (brought n all further) (mixed_in all include_of a)))))
 
 -- the line of instances: what the name itself brings, and then the line of the superclass, or those of the self types
 abbrev pub instances : ℕ → List Declared → Trail → Applied → Line
 instances zero all trail a = left_out
-instances (suc n) all trail a = if is_on trail a.path Instance then left_out else
-    followed_by (brought (suc n) all trail a) (in_a_row (map (instances n all ((a.path, Instance) ∷ trail)) (behind_instances all a)))
+instances (suc n) all trail a = if is_on trail a.name.path Instance then left_out else
+    followed_by (brought (suc n) all trail a) (in_a_row (map (instances n all ((a.name.path, Instance) ∷ trail)) (behind_instances all a)))
 
 -- the line of a class or a module itself: it, what extends it, and then the superclass's
 abbrev pub singletons : ℕ → List Declared → Trail → Applied → Line
 singletons zero all trail a = left_out
-singletons (suc n) all trail a = if is_on trail a.path Singleton then left_out else
-    (let further = (a.path, Singleton) ∷ trail in
-    followed_by (one_step a.path Singleton [])
+singletons (suc n) all trail a = if is_on trail a.name.path Singleton then left_out else
+    (let further = (a.name.path, Singleton) ∷ trail in
+    followed_by (one_step a.name.path Singleton [])
     (followed_by (in_a_row (map (brought n all further) (mixed_in all extend_of a))) (in_a_row (map (singletons n all further) (behind_singletons all a)))))
 
 -- A trail has each declared name once in each kind at most, so more turns than this change nothing.
@@ -229,8 +227,8 @@ instance_line all path = instances (turns all) all [] (itself all path)
 
 -- the class of classes, and that of modules
 abbrev pub end_of_singletons : Sort → List Declared → Line
-end_of_singletons a_class all = instances (turns all) all [] (plain (codes "Class" ∷ []))
-end_of_singletons a_module all = instances (turns all) all [] (plain (codes "Module" ∷ []))
+end_of_singletons is.Class all = instances (turns all) all [] (plain (codes "Class" ∷ []))
+end_of_singletons is.Module all = instances (turns all) all [] (plain (codes "Module" ∷ []))
 end_of_singletons _ all = no_line
 
 -- an interface has none
@@ -241,8 +239,8 @@ singleton_line all path = by_sort (sort all path)
     whole = followed_by (singletons (turns all) all [] (itself all path)) (end_of_singletons (sort all path) all)
 
     by_sort : Sort → Line
-    by_sort a_class = whole
-    by_sort a_module = whole
+    by_sort is.Class = whole
+    by_sort is.Module = whole
     by_sort _ = no_line
 
 abbrev pub line : List Declared → Path → Kind → Line

@@ -6,16 +6,23 @@ use Rattle.rbs_tree.specs.declared.types.Ty.TheVariants as t
 use Rattle.rbs_tree.specs.declared.types.MethodType.{MethodType}
 use Rattle.rbs_tree.specs.declared.types.Ty.TheViews.{out-MethodType, roll-MethodType}
 use Rattle.sig_rules.specs.declared.files.Declared.{Declared}
+use Rattle.sig_rules.specs.declared.sort.Sort.{Sort}
+use Rattle.sig_rules.specs.declared.sort.Sort.TheVariants as is
+use Rattle.sig_rules.specs.declared.given.What.{What}
+use Rattle.sig_rules.specs.declared.given.What.TheVariants.{Whole, Further, AliasOf}
+use Rattle.sig_rules.specs.declared.given.GivenMethod.{GivenMethod}
+use Rattle.sig_rules.specs.declared.given.GivenVariable.{GivenVariable}
+use Rattle.sig_rules.specs.declared.line.Applied.{Applied}
 use Rattle.sig_rules.specs.declared.line.Kind.{Kind}
 use Rattle.sig_rules.specs.declared.line.Kind.TheVariants.{Instance, Singleton}
 use Rattle.sig_rules.specs.declared.line.Step.{Step}
 use Rattle.sig_rules.specs.declared.method.Visibility.TheVariants.{Public}
 use Rattle.sig_rules.specs.declared.method.Method.{Method}
 use Rattle.sig_rules.specs.Declarations.{Path, full_name}
-use Rattle.sig_rules.specs.Types.{Sort, a_class, sort, first_params}
-use Rattle.sig_rules.specs.Lines.{Applied, line}
+use Rattle.sig_rules.specs.Types.{sort, first_params}
+use Rattle.sig_rules.specs.Lines.{line}
 use Rattle.sig_rules.specs.Instances.{all_apart_from}
-use Rattle.sig_rules.specs.Given.{What, whole, further, alias_of, GivenMethod, GivenVariable, given_methods, given_variables, simple}
+use Rattle.sig_rules.specs.Given.{given_methods, given_variables, simple}
 
 abbrev pub same_word : List ℕ → List ℕ → Bool
 same_word = pointwise nat_eq
@@ -58,7 +65,7 @@ comes_to zero is_elsewhere living place name = false
 comes_to (suc turns) is_elsewhere living place name = by_next (comes_to turns is_elsewhere living place) (next is_elsewhere living name)
   where
     by_what : (List ℕ → Bool) → What → Bool
-    by_what again (alias_of old) = again old
+    by_what again (AliasOf old) = again old
     by_what again _ = false
 
     by_next : (List ℕ → Bool) → Next → Bool
@@ -74,7 +81,7 @@ is_dead is_elsewhere living p = by_what p.given.what
     is_nowhere _ = false
 
     by_what : What → Bool
-    by_what (alias_of old) = is_nowhere (next is_elsewhere living old) || comes_to (suc (length living)) is_elsewhere living p.place old
+    by_what (AliasOf old) = is_nowhere (next is_elsewhere living old) || comes_to (suc (length living)) is_elsewhere living p.place old
     by_what _ = false
 
 -- those that live when the dead ones are taken away again and again
@@ -109,9 +116,9 @@ once_more step from_behind old so_far g = by_what g.what
     made overloads = record { overloads = overloads; visible = g.visible; owner = step.name; kind = step.kind }
 
     by_what : What → Option Method
-    by_what (whole overloads) = or_else so_far (Some (made overloads))
-    by_what (further overloads) = Some (made (overloads ++ overloads_of (or_else so_far from_behind)))
-    by_what (alias_of name) = or_else so_far (old name)
+    by_what (Whole overloads) = or_else so_far (Some (made overloads))
+    by_what (Further overloads) = Some (made (overloads ++ overloads_of (or_else so_far from_behind)))
+    by_what (AliasOf name) = or_else so_far (old name)
 
 -- with all declarations of its name that live at the step, one after the other
 abbrev pub with_all : Step → Option Method → (List ℕ → Option Method) → Option Method → List GivenMethod → Option Method
@@ -134,7 +141,7 @@ at_step (suc turns) step from_behind from_elsewhere gs name =
 -- ---- along a line
 
 abbrev pub applied_of : List Declared → Step → Applied
-applied_of all step = record { path = step.name.path; args = args_of step.kind }
+applied_of all step = record { name = step.name; args = args_of step.kind }
   where
     args_of : Kind → List Ty
     args_of Instance = step.args
@@ -201,7 +208,7 @@ abbrev pub new_made : List Declared → Made
 new_made all step name = if same_word name (codes "new") && is_class_itself step.kind (sort all step.name.path) then Some new else None
   where
     is_class_itself : Kind → Sort → Bool
-    is_class_itself Singleton a_class = true
+    is_class_itself Singleton is.Class = true
     is_class_itself _ _ = false
 
     new : Method

@@ -19,35 +19,29 @@ use Rattle.rbs_tree.specs.declared.decls.Member.{Member}
 use Rattle.rbs_tree.specs.declared.decls.Decl.TheOpen.{Decl-F}
 use Rattle.rbs_tree.specs.declared.decls.Decl.TheViews.{out-Decl}
 use Rattle.sig_rules.specs.declared.files.Declared.{Declared}
+use Rattle.sig_rules.specs.declared.sort.Sort.{Sort}
+use Rattle.sig_rules.specs.declared.sort.Sort.TheVariants as is
 use Rattle.sig_rules.specs.Declarations.{Path, full_name, entries}
 use Rattle.sig_rules.specs.Names.{resolve}
 
 -- ---- what a full name is the name of
 
-pub data Sort : Type 0 where
-  a_class : Sort
-  a_module : Sort
-  an_interface : Sort
-  an_alias : Sort
-  -- a constant, a global, or nothing
-  no_type : Sort
-
 abbrev pub sort_of : Decl → Sort
 sort_of decl = layer (out-Decl decl)
   where
     layer : Decl-F Decl Member → Sort
-    layer (Decl-F.Class name params superclass members) = a_class
-    layer (Decl-F.Module name params self_types members) = a_module
-    layer (Decl-F.Interface name params members) = an_interface
-    layer (Decl-F.Alias name params ty) = an_alias
-    layer _ = no_type
+    layer (Decl-F.Class name params superclass members) = is.Class
+    layer (Decl-F.Module name params self_types members) = is.Module
+    layer (Decl-F.Interface name params members) = is.Interface
+    layer (Decl-F.Alias name params ty) = is.Alias
+    layer _ = is.Other
 
 -- by the first declaration that counts
 abbrev pub sort : List Declared → Path → Sort
 sort all path = of_first (entries all path)
   where
     of_first : List Declared → Sort
-    of_first [] = no_type
+    of_first [] = is.Other
     of_first (d ∷ ds) = sort_of d.decl
 
 -- ---- type parameters and arguments
@@ -99,11 +93,11 @@ last_word (word ∷ words) = last_word words
 
 -- the type of a full name; what is no type is unknown
 abbrev pub by_sort : Sort → TypeName → List Ty → Ty
-by_sort a_class name args = t.Instance name args
-by_sort a_module name args = t.Instance name args
-by_sort an_interface name args = t.Interface name args
-by_sort an_alias name args = t.Alias name args
-by_sort no_type name args = t.Untyped
+by_sort is.Class name args = t.Instance name args
+by_sort is.Module name args = t.Instance name args
+by_sort is.Interface name args = t.Interface name args
+by_sort is.Alias name args = t.Alias name args
+by_sort is.Other name args = t.Untyped
 
 abbrev pub type_named : List Declared → Option Path → List Ty → Ty
 type_named all None args = t.Untyped
@@ -111,8 +105,8 @@ type_named all (Some path) args = by_sort (sort all path) (full_name path) (fitt
 
 -- the class or the module of a full name itself
 abbrev pub singleton_by_sort : Sort → TypeName → Ty
-singleton_by_sort a_class name = t.Singleton name
-singleton_by_sort a_module name = t.Singleton name
+singleton_by_sort is.Class name = t.Singleton name
+singleton_by_sort is.Module name = t.Singleton name
 singleton_by_sort _ name = t.Untyped
 
 abbrev pub singleton_named : List Declared → Option Path → Ty

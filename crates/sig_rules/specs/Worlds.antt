@@ -1,18 +1,19 @@
 -- What is answered of a project's full names: lines, definitions, aliases and values. A table of methods is told by what it has of each
 -- name, in whatever order it lists them.
-use Rattle.std.specs.Prelude.{◌≡◌, ℕ, ◌==◌, Bool, true, false, ◌&&◌, if◌then◌else◌, nat_eq, List, [], ◌∷◌, ◌++◌, codes, Option, Some, None}
+use Rattle.std.specs.Prelude.{◌≡◌, ℕ, ◌==◌, Bool, false, if◌then◌else◌, nat_eq, List, [], ◌∷◌, ◌++◌, codes, Option, Some, None}
 use Rattle.std.specs.Map.{lookup}
 use Rattle.std.specs.Cmp.Lexicographic.{pointwise}
 use Rattle.rbs_tree.specs.declared.types.Ty.{Ty}
 use Rattle.sig_rules.specs.declared.files.Declared.{Declared}
+use Rattle.sig_rules.specs.declared.sort.Sort.{Sort}
+use Rattle.sig_rules.specs.declared.sort.Sort.TheVariants as is
 use Rattle.sig_rules.specs.declared.line.Kind.{Kind}
-use Rattle.sig_rules.specs.declared.line.Kind.TheVariants.{Instance, Singleton}
+use Rattle.sig_rules.specs.declared.line.Kind.TheVariants.{Instance}
 use Rattle.sig_rules.specs.declared.line.Line.{Line}
-use Rattle.sig_rules.specs.declared.method.Method.{Method}
 use Rattle.sig_rules.specs.declared.method.Definition.{Definition}
 use Rattle.sig_rules.specs.Declarations.{Path, declared_names}
 use Rattle.sig_rules.specs.Names.{first_that}
-use Rattle.sig_rules.specs.Types.{Sort, a_class, a_module, an_interface, an_alias, no_type, sort, alias, value}
+use Rattle.sig_rules.specs.Types.{sort, alias, value}
 use Rattle.sig_rules.specs.Lines.{line}
 use Rattle.sig_rules.specs.Methods.{method, variable}
 
@@ -26,9 +27,9 @@ abbrev pub line_of : List Declared → Path → Kind → Option Line
 line_of all path kind = by_sort (sort all path)
   where
     by_sort : Sort → Option Line
-    by_sort a_class = Some (line all path kind)
-    by_sort a_module = Some (line all path kind)
-    by_sort an_interface = Some (line all path kind)
+    by_sort is.Class = Some (line all path kind)
+    by_sort is.Module = Some (line all path kind)
+    by_sort is.Interface = Some (line all path kind)
     by_sort _ = None
 
 -- what a table has by a name
@@ -49,8 +50,8 @@ IsDefinition all path kind answer = by_sort (sort all path) answer
     there (Some d) = Defines all path kind d
 
     by_sort : Sort → Option Definition → Type 0
-    by_sort a_class answer = there answer
-    by_sort a_module answer = there answer
+    by_sort is.Class answer = there answer
+    by_sort is.Module answer = there answer
     by_sort _ answer = answer ≡ None
 
 -- an interface's methods; it has no variables
@@ -62,7 +63,7 @@ IsShape all path answer = by_sort (sort all path) answer
     there (Some d) = Defines all path Instance d
 
     by_sort : Sort → Option Definition → Type 0
-    by_sort an_interface answer = there answer
+    by_sort is.Interface answer = there answer
     by_sort _ answer = answer ≡ None
 
 -- the type parameters and the type of an alias

@@ -10,6 +10,14 @@ pub enum Kind {
     Singleton,
 }
 
+/// A class, a module or an interface with its arguments.
+#[derive(Debug, Drop)]
+pub struct Applied {
+    /// The full name.
+    pub name: TypeName,
+    pub args: Seq<Ty>,
+}
+
 /// A class, a module or an interface on a line.
 #[derive(Debug, Drop)]
 pub struct Step {
