@@ -1,0 +1,2 @@
+mod FittedLemmas
+mod MeaningLemmas
