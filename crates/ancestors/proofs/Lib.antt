@@ -1,0 +1,6 @@
+pub mod EndLemmas
+pub mod LineLemmas
+pub mod PieceLemmas
+pub mod ReferenceLemmas
+pub mod TrailLemmas
+pub mod WalkLemmas
