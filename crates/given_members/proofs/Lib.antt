@@ -1,0 +1,4 @@
+pub mod AttributeLemmas
+pub mod GivenLemmas
+pub mod ScopeLemmas
+pub mod VariableLemmas
