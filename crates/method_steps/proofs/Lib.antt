@@ -1,0 +1,12 @@
+pub mod AimLemmas
+pub mod CircleLemmas
+pub mod GatheringLemmas
+pub mod GroupLemmas
+pub mod HoldsLemmas
+pub mod LivingLemmas
+pub mod MadeLemmas
+pub mod SlotLemmas
+pub mod SlotsLive
+pub mod StackLemmas
+pub mod StepLemmas
+pub mod TableLemmas

@@ -1,0 +1,4 @@
+pub mod Circles
+pub mod Gathering
+pub mod Slots
+pub mod Steps
