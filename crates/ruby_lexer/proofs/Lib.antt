@@ -1,0 +1,7 @@
+mod Ends
+mod Found
+mod Looks
+mod Runs
+mod Stacks
+mod Values
+mod Worked

@@ -1,0 +1,14 @@
+pub mod Forms
+pub mod Characters
+pub mod Lines
+pub mod Kinds
+pub mod Tokens
+pub mod Symbols
+pub mod Words
+pub mod Numbers
+pub mod Signs
+pub mod Strings
+pub mod Heredocs
+pub mod Machine
+pub mod Answers
+pub mod Laws
