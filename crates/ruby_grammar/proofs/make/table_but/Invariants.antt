@@ -1,0 +1,12 @@
+use Rattle.std.proofs.Common.{◌≡◌, ◌≤◌, ◌-◌, not}
+use Rattle.ruby_grammar.specs.Sets.{table_by, table_end, is_one_of}
+use Rattle.ruby_grammar.proofs.make.table_but.Given as goal
+
+abbrev pub invariant-numbers : goal.invariant-numbers
+invariant-numbers l = record {
+  made : l.table ≡ table_by (λ n. not (is_one_of l.numbers n)) l.number;
+  within : l.number ≤ table_end;
+}
+
+abbrev pub decreases-numbers : goal.decreases-numbers
+decreases-numbers l = table_end - l.number

@@ -1,0 +1,33 @@
+//! Ordered grammars as values, and an engine that reads lists of tokens by them.
+//!
+//! A grammar is a list of rules; a rule calls rules of lower numbers, and opens any rule while there is room in a budget. What a
+//! grammar derives is defined in `specs/Meaning.antt`, once for all grammars. Nothing here knows of Ruby: a token is a number and
+//! whether a blank stands before it, a part's name is a number.
+#![tactic(auto)]
+
+mod engine;
+mod grow;
+mod grown;
+pub mod make;
+mod memo;
+mod part;
+mod refusal;
+mod room;
+mod set;
+mod step;
+mod token;
+mod tree;
+mod whole;
+
+pub use memo::{Entry, Memo};
+pub use part::{Grammar, Part, Rule};
+pub use refusal::Refusal;
+pub use room::{Budget, Room};
+pub use set::{Blank, TokenSet};
+pub use step::Step;
+pub use token::Token;
+pub use tree::{Fault, Tree};
+pub use whole::parse;
+
+#[cfg(test)]
+mod tests;

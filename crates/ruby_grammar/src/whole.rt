@@ -1,0 +1,51 @@
+//! The reading of a whole list of tokens.
+
+ghost use Rattle.ruby_grammar.specs.Parsed.{budgets, parsed, Answers};
+ghost use Rattle.std.specs.Prelude.{◌≡◌};
+
+use crate::engine::read_rule;
+use crate::grow::grow_rule;
+use crate::memo::Memo;
+use crate::part::Grammar;
+use crate::refusal::Refusal;
+use crate::room::Room;
+use crate::token::Token;
+use crate::tree::{Fault, Tree};
+use src_text::{NoMemory, Seq};
+use std::alloc::Global;
+
+// How many rules may be open in each budget.
+#[tactic(auto, unfolding(crate::specs::Parsed::budgets))]
+fn budgets_limit() -> usize
+    ensures { result ≡ budgets }
+{
+    128
+}
+
+/// The trees that the grammar's first rule derives from the first token on. Where it derives nothing, the fault is `Syntax` with the
+/// farthest place at which something that was tried failed; where a rule or a link too many begins first, `TooDeep` with that place.
+#[tactic(auto, using(crate::proofs::Kept::new_sound))]
+pub fn parse(alloc: Global, grammar: &Grammar, tokens: &[Token]) -> Result<Seq<Tree>, Fault>
+    ensures { Answers (parsed grammar.now tokens.now) result }
+{
+    let mut memo = match Memo::new(alloc, tokens.len() + 1) {
+        Ok(memo) => memo,
+        Err(NoMemory) => return Err(Fault::NoMemory),
+    };
+    let rules = grammar.rules.as_slice();
+    let room = Room {
+        rules: budgets_limit(),
+        words: budgets_limit(),
+    };
+    match read_rule(&mut memo, rules, tokens, room, grammar.start, 0) {
+        Err(Refusal::TooDeep(place)) => Err(Fault::TooDeep(place)),
+        Err(Refusal::NoMemory) => Err(Fault::NoMemory),
+        Ok(step) => match step.next {
+            None => Err(Fault::Syntax(step.far)),
+            Some(_) => match grow_rule(alloc, &mut memo, rules, tokens, room, grammar.start, 0) {
+                Ok(grown) => Ok(grown.trees),
+                Err(NoMemory) => Err(Fault::NoMemory),
+            },
+        },
+    }
+}
