@@ -9,7 +9,7 @@ ghost use Rattle.ancestors.specs.References.{applied_refs, around, chosen, fits,
 
 use crate::references::{Role, fits, refs_in, self_types_of, superclass_of};
 use rbs_tree::{Decl, Member, Ref, Ty, TypeName, copy_name};
-use sig_rules::{Applied, Declared, Names, joined_name};
+use sig_rules::{Applied, Declared, Names, copy_names, joined_name};
 use src_text::{Mem, Seq, Text};
 use std::alloc::Global;
 use std::slice;
@@ -134,16 +134,6 @@ fn around(alloc: Global, role: Role, name: &TypeName, declared: &Declared) -> Me
     }
 }
 
-fn copy_names(alloc: Global, names: &[TypeName]) -> Mem<Seq<TypeName>>
-    ensures { IfOk result (λ copy. copy ≡ names.now) }
-{
-    let mut copy = Seq::new(alloc);
-    for name in names {
-        copy.push(copy_name(alloc, name)?)?;
-    }
-    Ok(copy)
-}
-
 // What a declaration refers to in a role, with its own type parameters.
 fn applied_refs<N: Names>(
     alloc: Global,
@@ -228,7 +218,7 @@ fn add_ref<N: Names>(
         None => Ok(()),
         Some(name) => {
             let args = all_meant(alloc, names, scope, target.args.as_slice())?;
-            let args = fitted(alloc, names, name, args)?;
+            let args = fitted(names, name, args)?;
             let name = copy_name(alloc, name)?;
             all.push(Applied { name, args })
         }

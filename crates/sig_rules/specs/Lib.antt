@@ -9,3 +9,8 @@ pub mod Types
 pub mod Sorted
 pub mod Limits
 pub mod Worlds
+pub mod Equality
+pub mod Normal
+pub mod Functions
+pub mod Subtypes
+pub mod Consulted

@@ -1,10 +1,11 @@
-ghost use Rattle.std.specs.Prelude.{◌≡◌, IfSome};
+ghost use Rattle.std.specs.Prelude.{◌≡◌, ◌↔◌, IfOk, IsTrue};
 ghost use Rattle.std.specs.Option.{option_copied};
+ghost use Rattle.sig_rules.specs.Subtypes.{IsSubtype};
 ghost use Rattle.sig_rules.specs.Worlds.{line_of, IsDefinition, IsShape, alias_of, value_of};
 
-use crate::{Definition, Kind, Line, Names};
+use crate::{Definition, Kind, Line, Memo, Names};
 use rbs_tree::{Ty, TypeName};
-use src_text::{Seq, Text};
+use src_text::{Mem, Seq, Text};
 
 /// The lines of a project's classes, modules and interfaces.
 pub trait Lines: Names {
@@ -30,4 +31,11 @@ pub trait Members: Lines {
     /// The type of a constant by its full name, with `::` before each word, or of a global with its `$`.
     fn value(&self, name: &Text) -> Option<&Ty>
         ensures { option_copied result ≡ value_of (Self.all self.now) name.now };
+}
+
+/// A project in which types are compared.
+pub trait World: Members {
+    /// Whether a type is a subtype of another.
+    fn subtype(&self, memo: &mut Memo, s: &Ty, t: &Ty) -> Mem<bool>
+        ensures { IfOk result (λ found. IsTrue found ↔ IsSubtype (Self.all self.now) s.now t.now) };
 }

@@ -71,7 +71,7 @@ pub(crate) fn inner_context(
 }
 
 /// A copy of a list of names.
-pub(crate) fn copy_names(alloc: Global, names: &[TypeName]) -> Mem<Seq<TypeName>>
+pub fn copy_names(alloc: Global, names: &[TypeName]) -> Mem<Seq<TypeName>>
     ensures { IfOk result (λ copy. copy ≡ names.now) }
 {
     let mut copy = Seq::new(alloc);

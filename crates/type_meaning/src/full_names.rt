@@ -78,7 +78,7 @@ pub fn param_names(alloc: Global, params: &[TypeParam]) -> Mem<Seq<Text>>
 }
 
 /// As many arguments as a full name has type parameters: missing ones are `untyped`, and surplus ones are dropped.
-pub fn fitted<N: Names>(alloc: Global, names: &N, name: &TypeName, args: Seq<Ty>) -> Mem<Seq<Ty>>
+pub fn fitted<N: Names>(names: &N, name: &TypeName, args: Seq<Ty>) -> Mem<Seq<Ty>>
     ensures { IfOk result (λ fit. fit ≡ fitted_to (N.all names.now) name.now.path args) }
 {
     fitted_to(first_params(names, name).len(), args)

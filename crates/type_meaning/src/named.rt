@@ -43,7 +43,7 @@ pub(crate) fn type_named<N: Names>(
     match names.resolve(context, name) {
         None => Ok(Ty::Untyped),
         Some(full) => {
-            let (name, args) = both(copy_name(alloc, full), fitted(alloc, names, full, args))?;
+            let (name, args) = both(copy_name(alloc, full), fitted(names, full, args))?;
             Ok(by_sort(sort(names, full), name, args))
         }
     }
