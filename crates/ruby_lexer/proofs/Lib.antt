@@ -1,7 +1,12 @@
+mod CommentEnds
 mod Ends
 mod Found
+mod Fronts
+mod Lengths
 mod Looks
+mod Pieces
 mod Runs
 mod Stacks
+mod Suffices
 mod Values
 mod Worked

@@ -1,5 +1,6 @@
 pub mod Forms
 pub mod Characters
+pub mod CommentEnds
 pub mod Lines
 pub mod Kinds
 pub mod Tokens

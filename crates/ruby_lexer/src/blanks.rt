@@ -1,5 +1,6 @@
 ghost use Rattle.std.specs.Prelude.{◌≡◌, ◌≤◌, ◌<◌, ◌+◌, ◌^◌, ◌==◌, length, drop, not};
 ghost use Rattle.ruby_lexer.specs.Lines as lines;
+ghost use Rattle.ruby_lexer.specs.CommentEnds.{EndsBefore};
 ghost use Rattle.ruby_lexer.specs.Machine as spec;
 ghost use Rattle.ruby_lexer.specs.Answers.{Steps};
 
@@ -100,23 +101,37 @@ fn past_newline(state: State, token: &RubyToken, len: usize) -> State
     }
 }
 
+// Whether the line that begins at the place goes on with the line before.
+fn line_begins_with_dot(text: &[u8], place: usize, last_end: usize) -> bool
+    requires { EndsBefore last_end text.now }
+    ensures { result ≡ lines.begins_with_dot (drop place text.now) }
+{
+    begins_with_dot(behind(text, place), last_end)
+}
+
 // Whether the line's end here is no token.
-fn is_dropped(text: &[u8], state: State, len: usize) -> bool
-    requires { state.place + len < 2 ^ 32 }
+fn is_dropped(text: &[u8], state: State, len: usize, last_end: usize) -> bool
+    requires fits { state.place + len < 2 ^ 32 }
+    requires ends { EndsBefore last_end text.now }
     ensures { result ≡ spec.is_dropped text.now state len }
 {
     drops_line_end(state.last)
-        || begins_with_dot(behind(text, behind_line(state.bodies_end, state.place + len)))
+        || line_begins_with_dot(
+            text,
+            behind_line(state.bodies_end, state.place + len),
+            last_end,
+        )
 }
 
 /// How long the long comment is that begins here, where a line begins here too.
-pub fn comment_here(text: &[u8], state: State, rest: &[u8]) -> usize
-    requires { state.place ≤ length text.now }
+pub fn comment_here(text: &[u8], state: State, rest: &[u8], last_end: usize) -> usize
+    requires within { state.place ≤ length text.now }
+    requires ends { EndsBefore last_end rest.now }
     ensures value { result ≡ spec.comment_here text.now state rest.now }
     ensures within { result ≤ length rest.now }
 {
     if state.line_start && begins_line(text, state.place) {
-        long_comment_len(rest)
+        long_comment_len(rest, last_end)
     } else {
         0
     }
@@ -125,11 +140,12 @@ pub fn comment_here(text: &[u8], state: State, rest: &[u8]) -> usize
 impl Machine {
     /// A line's end of so many bytes.
     #[tactic(auto, unfolding(crate::specs::Machine::ends_line))]
-    pub fn ends_line(&mut self, text: &[u8], len: usize) -> Result<(), RubyAt>
-        requires { self.old.state.place + len < 2 ^ 32 }
+    pub fn ends_line(&mut self, text: &[u8], len: usize, last_end: usize) -> Result<(), RubyAt>
+        requires fits { self.old.state.place + len < 2 ^ 32 }
+        requires ends { EndsBefore last_end text.now }
         ensures { Steps (spec.ends_line text.now self.old len) result self.new }
     {
-        if is_dropped(text, self.state, len) {
+        if is_dropped(text, self.state, len, last_end) {
             self.state = past_dropped(self.state, len);
             return Ok(());
         }

@@ -2,6 +2,7 @@ ghost use Rattle.std.specs.Prelude.{◌≡◌, ◌≤◌, ◌<◌, ◌+◌, ◌^
 ghost use Rattle.ruby_lexer.specs.Characters as characters;
 ghost use Rattle.ruby_lexer.specs.Symbols as symbols;
 ghost use Rattle.ruby_lexer.specs.Words as words;
+ghost use Rattle.ruby_lexer.specs.CommentEnds.{EndsBefore};
 ghost use Rattle.ruby_lexer.specs.Machine as spec;
 ghost use Rattle.ruby_lexer.specs.Answers.{Steps};
 
@@ -131,9 +132,16 @@ impl Machine {
 
     // A step in code, but for long comments.
     #[tactic(auto, unfolding(crate::specs::Machine::line_step))]
-    fn line_step(&mut self, alloc: Global, text: &[u8], rest: &[u8]) -> Result<(), RubyAt>
+    fn line_step(
+        &mut self,
+        alloc: Global,
+        text: &[u8],
+        rest: &[u8],
+        last_end: usize,
+    ) -> Result<(), RubyAt>
         requires within { self.old.state.place + length rest.now ≤ length text.now }
         requires size { length text.now < 2 ^ 32 }
+        requires ends { EndsBefore last_end text.now }
         ensures { Steps (spec.line_step text.now self.old rest.now) result self.new }
     {
         if rest.is_empty() {
@@ -149,21 +157,29 @@ impl Machine {
         }
         let end = line_end_len(rest);
         if end != 0 {
-            return self.ends_line(text, end);
+            return self.ends_line(text, end, last_end);
         }
         self.visible_step(alloc, text, rest)
     }
 
-    /// A step in code.
+    /// A step in code, where so many bytes are left at the last line that ends a long comment.
     #[tactic(auto, unfolding(crate::specs::Machine::code_step))]
-    pub fn code_step(&mut self, alloc: Global, text: &[u8], rest: &[u8]) -> Result<(), RubyAt>
+    pub fn code_step(
+        &mut self,
+        alloc: Global,
+        text: &[u8],
+        rest: &[u8],
+        last_end: usize,
+    ) -> Result<(), RubyAt>
         requires within { self.old.state.place + length rest.now ≤ length text.now }
         requires size { length text.now < 2 ^ 32 }
+        requires ends { EndsBefore last_end text.now }
+        requires ends_here { EndsBefore last_end rest.now }
         ensures { Steps (spec.code_step text.now self.old rest.now) result self.new }
     {
-        let comment = comment_here(text, self.state, rest);
+        let comment = comment_here(text, self.state, rest, last_end);
         if comment == 0 {
-            return self.line_step(alloc, text, rest);
+            return self.line_step(alloc, text, rest, last_end);
         }
         self.state = State {
             place: self.state.place + comment,

@@ -1,12 +1,12 @@
 ghost use Rattle.std.specs.Prelude.{◌≡◌, ◌<◌, ◌^◌, length, Err};
-ghost use Rattle.ruby_lexer.specs.Tokens as places;
+ghost use Rattle.ruby_lexer.specs.CommentEnds.{EndsBefore};
 ghost use Rattle.ruby_lexer.specs.Machine as spec;
 ghost use Rattle.ruby_lexer.specs.Answers.{Gives, Steps};
 
 use crate::characters::behind;
 use crate::kinds::is_end;
+use crate::lines::last_comment_end;
 use crate::machine::Machine;
-use crate::placing::no_token;
 use crate::refusal::RubyAt;
 use crate::state::Opened;
 use crate::token::RubyToken;
@@ -28,32 +28,19 @@ fn run(alloc: Global, text: &[u8]) -> Result<Seq<RubyToken>, RubyAt>
     requires { length text.now < 2 ^ 32 }
     ensures { Gives result (spec.tokens_of text.now) }
 {
+    let last_end = last_comment_end(text);
     let mut machine = Machine::at_start(alloc);
-    let mut left = text.len() + 1;
-    while left != 0 {
-        step(alloc, text, &mut machine)?;
-        if is_end(machine.state.last) {
-            return Ok(machine.into_tokens());
-        }
-        left -= 1;
+    'steps: while !is_end(machine.state.last) {
+        step(alloc, text, last_end, &mut machine)?;
     }
-    out_of_steps(machine.state.place)
-}
-
-// No token stands at the place where the steps end. A place past 32 bits is answered as out of memory; none in a text is.
-fn out_of_steps(place: usize) -> Result<Seq<RubyToken>, RubyAt>
-    ensures { Gives result (Err (places.no_token place 0)) }
-{
-    if place > 0xffff_ffff {
-        return Err(RubyAt::NoMemory);
-    }
-    Err(no_token(place, 0))
+    Ok(machine.into_tokens())
 }
 
 // A step.
 #[tactic(auto, unfolding(crate::specs::Machine::step))]
-fn step(alloc: Global, text: &[u8], machine: &mut Machine) -> Result<(), RubyAt>
-    requires { length text.now < 2 ^ 32 }
+fn step(alloc: Global, text: &[u8], last_end: usize, machine: &mut Machine) -> Result<(), RubyAt>
+    requires size { length text.now < 2 ^ 32 }
+    requires ends { EndsBefore last_end text.now }
     ensures { Steps (spec.step text.now machine.old) result machine.new }
 {
     let place = machine.state.place;
@@ -65,6 +52,6 @@ fn step(alloc: Global, text: &[u8], machine: &mut Machine) -> Result<(), RubyAt>
         Some(Opened::Quoted(quoted)) => machine.quoted_step(alloc, quoted, rest),
         Some(Opened::Words(words)) => machine.words_step(alloc, words, rest),
         Some(Opened::Heredoc(heredoc)) => machine.heredoc_step(alloc, text, heredoc, rest),
-        _ => machine.code_step(alloc, text, rest),
+        _ => machine.code_step(alloc, text, rest, last_end),
     }
 }

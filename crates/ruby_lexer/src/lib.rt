@@ -28,7 +28,7 @@ mod token;
 mod words;
 
 pub use kind::{Keyword, RubyKind, Sign};
-pub use laws::ends_once;
+pub use laws::{ends_once, steps_suffice};
 pub use lexer::tokens;
 pub use refusal::{Form, RubyAt};
 pub use token::{RubyToken, RubyValue, WordsOf};

@@ -1,6 +1,7 @@
 ghost use Rattle.std.specs.Prelude.{◌≡◌, ◌≤◌, ◌<◌, length, drop, IfSome, IsTrue};
 ghost use Rattle.ruby_lexer.specs.Characters.{first_is};
 ghost use Rattle.ruby_lexer.specs.Lines as spec;
+ghost use Rattle.ruby_lexer.specs.CommentEnds.{EndsBefore};
 ghost use Rattle.ruby_lexer.specs.declared.lines.Look.TheVariants as look;
 
 use crate::characters::{
@@ -178,11 +179,30 @@ fn up_to_end(begins_here: bool, text: &[u8]) -> Option<usize>
     None
 }
 
+/// How many bytes are left at the last line that is `=end`, or all where there is none. Where no more are left, no long comment ends.
+pub fn last_comment_end(text: &[u8]) -> usize
+    ensures { EndsBefore result text.now }
+{
+    let mut last_end = text.len();
+    let mut begins = false;
+    for (at, byte) in text.iter().enumerate() {
+        if ends_comment(begins, behind(text, at)) {
+            last_end = text.len() - at;
+        }
+        begins = is_line_end(*byte);
+    }
+    last_end
+}
+
 /// A comment from a line `=begin` to a line `=end`, where a line begins here.
-pub fn long_comment_len(text: &[u8]) -> usize
+pub fn long_comment_len(text: &[u8], last_end: usize) -> usize
+    requires { EndsBefore last_end text.now }
     ensures value { result ≡ spec.long_comment_len text.now }
     ensures within { result ≤ length text.now }
 {
+    if text.len() <= last_end {
+        return 0;
+    }
     if begins_comment(text) {
         or_zero(up_to_end(false, text))
     } else {
@@ -236,11 +256,12 @@ fn look_in_comment(text: &[u8]) -> Ahead
     }
 }
 
-fn look_at_line(text: &[u8]) -> Ahead
-    requires { 0 < length text.now }
+fn look_at_line(text: &[u8], last_end: usize) -> Ahead
+    requires some { 0 < length text.now }
+    requires ends { EndsBefore last_end text.now }
     ensures { result ≡ spec.look_here look.AtLine text.now }
 {
-    let comment = long_comment_len(text);
+    let comment = long_comment_len(text, last_end);
     if comment == 0 {
         look_in_line(text)
     } else {
@@ -248,12 +269,13 @@ fn look_at_line(text: &[u8]) -> Ahead
     }
 }
 
-fn look_here(look: Look, text: &[u8]) -> Ahead
-    requires { 0 < length text.now }
+fn look_here(look: Look, text: &[u8], last_end: usize) -> Ahead
+    requires some { 0 < length text.now }
+    requires ends { EndsBefore last_end text.now }
     ensures { result ≡ spec.look_here look text.now }
 {
     match look {
-        Look::AtLine => look_at_line(text),
+        Look::AtLine => look_at_line(text, last_end),
         Look::InLine => look_in_line(text),
         Look::InComment => look_in_comment(text),
     }
@@ -261,20 +283,22 @@ fn look_here(look: Look, text: &[u8]) -> Ahead
 
 /// Whether the line that begins here goes on with the line before.
 #[tactic(auto, unfolding(crate::specs::Lines::begins_with_dot))]
-pub fn begins_with_dot(text: &[u8]) -> bool
+pub fn begins_with_dot(text: &[u8], last_end: usize) -> bool
+    requires { EndsBefore last_end text.now }
     ensures { result ≡ spec.begins_with_dot text.now }
 {
-    finds_dot(text)
+    finds_dot(text, last_end)
 }
 
 #[tactic(auto, using(crate::proofs::Looks::goes_on, crate::proofs::Looks::told))]
-fn finds_dot(text: &[u8]) -> bool
+fn finds_dot(text: &[u8], last_end: usize) -> bool
+    requires { EndsBefore last_end text.now }
     ensures { result ≡ spec.finds_dot 0 look.AtLine text.now }
 {
     let mut rest = text;
     let mut look = Look::AtLine;
     while !rest.is_empty() {
-        match look_here(look, rest) {
+        match look_here(look, rest, last_end) {
             Ahead::Tells(found) => return found,
             Ahead::Skips(len, next) => {
                 rest = behind(behind(rest, 1), len);
