@@ -1,0 +1,26 @@
+use method_steps::Making;
+use sig_rules::{Method, Step};
+use src_text::Mem;
+use std::alloc::Global;
+
+/// Nothing is made: instances have declared methods alone.
+#[derive(Debug, Drop)]
+pub(crate) struct NothingMade;
+
+impl Making for NothingMade {
+    ghost use Rattle.sig_rules.specs.Methods.{nothing_made};
+
+    ghost made = { λ s. nothing_made };
+
+    #[tactic(auto, using(crate::proofs::MakingLemmas::nothing_is_first))]
+    fn makes_new(&self, _steps: &[Step]) -> bool {
+        false
+    }
+
+    #[tactic(auto, using(crate::proofs::MakingLemmas::nothing_is_first))]
+    fn first_new(&self, _alloc: Global, _steps: &[Step]) -> Mem<Option<Method>> {
+        Ok(None)
+    }
+
+    fn only_new(&self) {}
+}
