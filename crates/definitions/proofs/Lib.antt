@@ -1,0 +1,4 @@
+pub mod NameLemmas
+pub mod ProjectLemmas
+pub mod TableLemmas
+pub mod ValueLemmas
