@@ -1,0 +1,16 @@
+pub mod Assignments
+pub mod Calls
+pub mod Definitions
+pub mod Derived
+pub mod Drafts
+pub mod Forms
+pub mod Grammar
+pub mod Kinds
+pub mod Labels
+pub mod Names
+pub mod Operators
+pub mod Parameters
+pub mod Primaries
+pub mod Statements
+pub mod Texts
+pub mod Words
