@@ -15,6 +15,12 @@ const CLEAN: &str = "No type error detected.\n";
 const MISSING: &str =
     "lib/a.rb:1:8: [error] Type `::Foo` does not have method `baz` (Ruby::NoMethod)\nDetected 1 problem from 1 file.\n";
 
+// The names of 65,537 classes, and those that the core signatures declare.
+const NAMES: u64 = 65_537 + 27;
+
+// 4,097 methods of a class, and those that its instances have from the core signatures.
+const METHODS: u64 = 4_097 + 31;
+
 fn file(alloc: Global, path: &str, bytes: &[u8]) -> Result<(Text, Seq<u8>), Fail> {
     let bytes = Seq::from_slice(alloc, bytes)?;
     Ok((Text::from_str(alloc, path)?, bytes))
@@ -126,6 +132,32 @@ fn texts_are_checked_and_reported(rt: HostRuntime) -> Result<(), Fail> {
             Outcome::Clean,
             CLEAN,
         ),
+        (FOO.as_bytes(), b"Foo.new.inspect", Outcome::Clean, CLEAN),
+        (
+            FOO.as_bytes(),
+            b"Foo.new.puts",
+            Outcome::Found(1),
+            "lib/a.rb:1:8: [error] Type `::Foo` does not have method `puts` (Ruby::NoMethod)\nDetected 1 problem from 1 file.\n",
+        ),
+        (FOO.as_bytes(), b"Foo.new.dup(1)", unbuilt_ruby, ""),
+        (FOO.as_bytes(), b"Foo.new.send(1)", unbuilt_ruby, ""),
+        (FOO.as_bytes(), b"Foo.new.tap", unbuilt_ruby, ""),
+        (b"", b"Object.new.inspect", Outcome::Clean, CLEAN),
+        (
+            b"",
+            b"Object.new.inspect\nObject.new.wave",
+            Outcome::Found(1),
+            "lib/a.rb:2:11: [error] Type `::Object` does not have method `wave` (Ruby::NoMethod)\nDetected 1 problem from 1 file.\n",
+        ),
+        (
+            b"class String def shout: (Integer) -> String end",
+            b"String.new.shout(1)\nString.new.upcase",
+            Outcome::Clean,
+            CLEAN,
+        ),
+        (b"", b"Array.new.size", unbuilt_ruby, ""),
+        (b"", b"Kernel.new.inspect", unbuilt_ruby, ""),
+        (b"", b"StandardError.new.message", unbuilt_ruby, ""),
         (
             b"class Foo def \xc3\xa9: ( Integer \xc3\xa9 , Integer ) -> B end",
             b"Foo.new.baz",
@@ -225,6 +257,10 @@ fn refused_signatures_are_reported(rt: HostRuntime) -> Result<(), Fail> {
         let (answer, written) = ran(&rt, alloc, &["check"], quiet, &[])?;
         assert_eq!(rt; answer, Outcome::Found(1), "{wanted}");
         assert_eq!(rt; written.as_str(), wanted.as_str());
+        let calling = tree(alloc, ("lib/a.rb", b"Object.new.inspect"), signature, &[])?;
+        let (answer, written) = ran(&rt, alloc, &["check"], calling, &[])?;
+        assert_eq!(rt; answer, Outcome::Found(1), "{wanted}");
+        assert_eq!(rt; written.as_str(), wanted.as_str());
         let calling = tree(alloc, ("lib/a.rb", b"Foo.new.bar"), signature, &[])?;
         let (answer, written) = ran(&rt, alloc, &["check"], calling, &[])?;
         assert_eq!(rt; answer, Outcome::Unbuilt(Part::Ruby), "{wanted}");
@@ -270,6 +306,32 @@ fn long_texts_are_told(rt: HostRuntime) -> Result<(), Fail> {
         let tree = tree(alloc, ruby, ("sig/a.rbs", signature.as_bytes()), &[])?;
         let (answer, written) = ran(&rt, alloc, &["check"], tree, &[])?;
         assert_eq!(rt; answer, Outcome::TooLarge(Limit::File, length));
+        assert_eq!(rt; written.as_str(), "");
+    }
+    Ok(())
+}
+
+#[test]
+fn passed_limits_are_told(rt: HostRuntime) -> Result<(), Fail> {
+    let alloc = rt.alloc();
+    let mut classes = String::new(alloc);
+    for i in 0..65_537u32 {
+        classes.push_str(format!(in alloc; "class A{i:x} end ")?.as_str())?;
+    }
+    let mut methods = String::from_str(alloc, "class A ")?;
+    for i in 0..4_097u32 {
+        methods.push_str(format!(in alloc; "def m{i}: () -> A ")?.as_str())?;
+    }
+    methods.push_str("end")?;
+    let rows = [
+        (classes.as_str(), Limit::Names, NAMES),
+        (methods.as_str(), Limit::Methods, METHODS),
+    ];
+    for (signature, limit, count) in rows {
+        let signature = ("sig/a.rbs", signature.as_bytes());
+        let tree = tree(alloc, ("lib/a.rb", b"("), signature, &[])?;
+        let (answer, written) = ran(&rt, alloc, &["check"], tree, &[])?;
+        assert_eq!(rt; answer, Outcome::TooLarge(limit, count));
         assert_eq!(rt; written.as_str(), "");
     }
     Ok(())
@@ -364,6 +426,16 @@ fn outcomes_have_statuses_and_lines(rt: HostRuntime) -> Result<(), Fail> {
             Outcome::TooLarge(Limit::File, 1_048_577),
             9,
             Some("steep: limit passed: File 1048577"),
+        ),
+        (
+            Outcome::TooLarge(Limit::Names, 65_537),
+            9,
+            Some("steep: limit passed: Names 65537"),
+        ),
+        (
+            Outcome::TooLarge(Limit::Methods, 4_097),
+            9,
+            Some("steep: limit passed: Methods 4097"),
         ),
         (
             Outcome::Unbuilt(Part::Ruby),

@@ -1,16 +1,28 @@
 -- The texts of a project, and what they are found to be.
-use Rattle.std.proofs.Common.{◌≡◌, ℕ, List, sym, ap, ◌∙◌, subst, Option, None, Some, IfSome}
+use Rattle.std.proofs.Common.{◌≡◌, ℕ, List, [], ◌∷◌, sym, ap, ◌∙◌, subst, Option, None, Some, IfSome}
+use Rattle.std.proofs.lemmas.Option.{none-some, same_Some}
 use Rattle.ports.specs.Tree.{bytes_at}
 use Rattle.diagnostics.specs.declared.diagnostic.Diagnostic.{Diagnostic}
-use Rattle.steep_run.specs.Small.{Known}
-use Rattle.steep_run.specs.Signature.{SignatureGives}
+use Rattle.rbs_grammar.specs.Parse.{Tree}
+use Rattle.sig_rules.specs.declared.files.Declared.{Declared}
+use Rattle.sig_rules.specs.declared.files.FileTree.{FileTree}
+use Rattle.sig_rules.specs.declared.limits.Limit.{Limit}
+use Rattle.sig_rules.specs.declared.limits.Limit.TheVariants as limit
+use Rattle.sig_rules.specs.declared.limits.LimitFault.{LimitFault}
+use Rattle.sig_rules.specs.declared.limits.LimitFault.TheVariants as problem
+use Rattle.sig_rules.specs.Counts.{IsLimitFault}
+use Rattle.definitions.specs.Project.{IsProject}
+use Rattle.steep_run.specs.Signature.{SignatureGives, signature_path, signature_file, Declares, IsWithinLimits}
 use Rattle.steep_run.specs.Ruby.{IsRuby, faults_of, ReadsRuby}
-use Rattle.steep_run.specs.Project.{rooted, signature_path, ruby_path, text_of, project_of, first_too_long}
+use Rattle.steep_run.specs.Project.{rooted, ruby_path, text_of, project_of, first_too_long}
 use Rattle.steep_run.specs.Report.{HasFaults, HasOtherRuby, Reports}
+use Rattle.steep_run.specs.Reading.{IsChecked, passed, too_much}
+use Rattle.steep_run.specs.declared.check.Verdict.{Verdict}
+use Rattle.steep_run.specs.declared.check.Verdict.TheVariants.{TooManyNames, TooManyMethods}
 use Rattle.steep_run.specs.declared.faults.Faults.{Faults}
 use Rattle.steep_run.specs.declared.outcome.Outcome.{Outcome}
 use Rattle.steep_run.specs.declared.project.Project.{Project}
-use Rattle.steep_run.proofs.SignatureLemmas.{one_gift}
+use Rattle.steep_run.proofs.SignatureLemmas.{one_declared}
 use Rattle.steep_run.proofs.TextLemmas.{one_faults}
 
 -- from the texts that were read to the project that the tree has
@@ -35,19 +47,34 @@ pub same_root : (files : Option (List (List ℕ × List ℕ))) (given root : Lis
 same_root files given root old new outcome same reports = subst (λ r. IfSome files (λ known. Reports (project_of r known) old new outcome)) same reports
 
 -- from what was read of the two texts to what they are found to be
-pub both_small : (p : Project) (known : Known) (signature ruby : List Diagnostic) → first_too_long p ≡ None → SignatureGives p.signature known signature
-    → ReadsRuby known p.ruby (Some ruby) → HasFaults p (record { ruby = ruby; signature = signature })
-both_small p known signature ruby sizes gives reads =
-    record { known = known; calls = reads.0; sizes = sizes; signature = gives; ruby = reads.1; ruby_faults = sym reads.2 }
+pub both_small : (p : Project) (all : List Declared) (signature ruby : List Diagnostic) → first_too_long p ≡ None → Declares p.signature all signature
+    → IsWithinLimits all → ReadsRuby all p.ruby (Some ruby) → HasFaults p (record { ruby = ruby; signature = signature })
+both_small p all signature ruby sizes declares limits reads =
+    record { all = all; calls = reads.0; sizes = sizes; signature = declares; limits = limits; ruby = reads.1; ruby_faults = sym reads.2 }
 
-pub other_ruby : (p : Project) (known : Known) (signature : List Diagnostic) → SignatureGives p.signature known signature → ReadsRuby known p.ruby None → HasOtherRuby p
-other_ruby p known signature gives none = (known, signature, gives, none)
+pub other_ruby : (p : Project) (all : List Declared) (signature : List Diagnostic) → Declares p.signature all signature → IsWithinLimits all → ReadsRuby all p.ruby None → HasOtherRuby p
+other_ruby p all signature declares limits none = record { all = all; faults = signature; signature = declares; limits = limits; ruby = none }
+
+-- where there is too much to be declared
+passes : (p : Project) (tree : Tree) (faults : List Diagnostic) (limit : Limit) (n : ℕ) (verdict : Verdict) → SignatureGives p.signature tree faults
+    → ((all : List Declared) → IsProject (signature_file tree ∷ []) all → IsLimitFault all (problem.Limit limit n)) → Some verdict ≡ passed limit n → IsChecked p verdict
+passes p tree faults limit.Names n verdict gives too_many is = subst (IsChecked p) (sym (same_Some verdict (TooManyNames n) is)) (record { tree = tree; faults = faults; gives = gives; passed = too_many })
+passes p tree faults limit.Methods n verdict gives too_many is = subst (IsChecked p) (sym (same_Some verdict (TooManyMethods n) is)) (record { tree = tree; faults = faults; gives = gives; passed = too_many })
+passes p tree faults limit.File n verdict gives too_many is = absurd (none-some verdict (sym is))
+passes p tree faults limit.Files n verdict gives too_many is = absurd (none-some verdict (sym is))
+passes p tree faults limit.Total n verdict gives too_many is = absurd (none-some verdict (sym is))
+
+pub has_too_much : (p : Project) (tree : Tree) (faults : List Diagnostic) (files : List FileTree) (fault : LimitFault) (verdict : Verdict) → SignatureGives p.signature tree faults
+    → files ≡ signature_file tree ∷ [] → ((all : List Declared) → IsProject files all → IsLimitFault all fault) → Some verdict ≡ too_much fault → IsChecked p verdict
+has_too_much p tree faults files problem.NoMemory verdict gives is so told = absurd (none-some verdict (sym told))
+has_too_much p tree faults files (problem.Limit limit n) verdict gives is so told =
+    passes p tree faults limit n verdict gives (subst (λ (fs : List FileTree). (all : List Declared) → IsProject fs all → IsLimitFault all (problem.Limit limit n)) is so) told
 
 -- a project has one list of faults for each file
 pub one_list : (p : Project) (xs ys : Faults) → HasFaults p xs → HasFaults p ys → xs ≡ ys
 one_list p xs ys a b =
-    let gift = one_gift p.signature a.known b.known xs.signature ys.signature a.signature b.signature in
-    let other : IsRuby a.known p.ruby b.calls = subst (λ (k : Known). IsRuby k p.ruby b.calls) (sym gift.known_same) b.ruby in
-    let ruby : xs.ruby ≡ ys.ruby = a.ruby_faults ∙ one_faults a.known a.calls b.calls (sym a.ruby.written ∙ other.written) a.ruby.plain other.plain
-    ∙ ap (λ (k : Known). faults_of k b.calls) gift.known_same ∙ sym b.ruby_faults in
-    λ i. record { ruby = ruby i; signature = gift.faults_same i }
+    let one = one_declared p.signature a.all b.all xs.signature ys.signature a.signature b.signature in
+    let other : IsRuby a.all p.ruby b.calls = subst (λ (all : List Declared). IsRuby all p.ruby b.calls) (sym one.all_same) b.ruby in
+    let ruby : xs.ruby ≡ ys.ruby = a.ruby_faults ∙ one_faults a.all a.calls b.calls (sym a.ruby.written ∙ other.written) a.ruby.plain other.plain
+    ∙ ap (λ (all : List Declared). faults_of all b.calls) one.all_same ∙ sym b.ruby_faults in
+    λ i. record { ruby = ruby i; signature = one.faults_same i }

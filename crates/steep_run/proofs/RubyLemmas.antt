@@ -1,19 +1,15 @@
--- Lines of small Ruby texts, and what a table says of a call.
-use Rattle.std.proofs.Common.{◌≡◌, ◌<◌, ℕ, suc, ◌+◌, ◌-◌, Bool, true, false, ◌&&◌, ◌||◌, List, [], ◌∷◌, ◌++◌, refl, sym, ap, ◌∙◌, subst, arith, length, take, drop, None, Some, IsTrue}
-use Rattle.std.specs.Prelude.{filter, nat_lt, ◌==◌, is_none, slice_index, if◌then◌else◌}
+-- Lines of small Ruby texts.
+use Rattle.std.proofs.Common.{◌≡◌, ◌<◌, ℕ, suc, ◌+◌, ◌-◌, Bool, true, false, ◌&&◌, ◌||◌, List, [], ◌∷◌, ◌++◌, refl, sym, ap, ◌∙◌, subst, arith, length, take, drop, IsTrue}
+use Rattle.std.specs.Prelude.{filter, nat_lt, ◌==◌, slice_index, if◌then◌else◌}
 use Rattle.std.proofs.Common.{take-append-drop, append_assoc}
 use Rattle.std.proofs.Math.Seq.{drop-cons}
 use Rattle.std.proofs.lemmas.List.{take_rest, take_all, take_at, append-nil, length-append}
-use Rattle.std.proofs.lemmas.Bool.Decides.{nat_tests}
 use Rattle.steep_run.specs.Reading.{IsMethod}
 use Rattle.steep_run.specs.Ruby.{is_mark}
 use Rattle.steep_run.specs.Words.{is_mark_byte, is_ascii_word_byte, begins}
 use Rattle.std.specs.List.{list_all, list_any}
-use Rattle.std.specs.Option.{option_map_or}
-use Rattle.std.specs.Map.{lookup}
-use Rattle.steep_run.specs.Words.{is_line_end, same_word}
-use Rattle.steep_run.specs.Small.{Known}
-use Rattle.steep_run.specs.Ruby.{Line, in_front, lines_from, is_filled, filled, filled_lines, accepts, fits, lacks}
+use Rattle.steep_run.specs.Words.{is_line_end}
+use Rattle.steep_run.specs.Ruby.{Line, in_front, lines_from, is_filled, filled, filled_lines}
 
 -- the lines that aren't empty of a line and others
 filled_front : (b : Bool) (l : Line) (ls : List Line) → (if b then l ∷ ls else ls) ≡ (if b then l ∷ [] else []) ++ ls
@@ -104,37 +100,3 @@ marked_method bytes word (m ∷ more) whole all longest some mark = record {
   marked = mark_of m mark;
   unmarked = refl;
 }
-
--- numbers that are the same, and that aren't
-pub same_number : (a b : ℕ) → a ≡ b → (a == b) ≡ true
-same_number a b h = grind (arith, nat_tests)
-
-pub other_number : (a b : ℕ) → (a ≡ b → ⊥) → (a == b) ≡ false
-other_number a b h = grind (arith, nat_tests)
-
--- a class that isn't known
-pub no_class : (known : Known) (name class method : List ℕ) (n : ℕ) → name ≡ class → None ≡ lookup (same_word name) known → fits known class method n ≡ false
-no_class known name class method n same none =
-    ap (λ o. option_map_or (accepts method n) o false) (sym (subst (λ w. None ≡ lookup (same_word w) known) same none))
-
--- a method that is declared
-pub known_method : (known : Known) (name class method_name method : List ℕ) (methods : List (List ℕ × ℕ)) (wanted n : ℕ) → name ≡ class → method_name ≡ method
-    → Some methods ≡ lookup (same_word name) known → Some wanted ≡ lookup (same_word method_name) methods
-    → (fits known class method n ≡ (wanted == n)) × (lacks known class method ≡ false)
-known_method known name class method_name method methods wanted n same same_method found there =
-    let known_as : lookup (same_word class) known ≡ Some methods = sym (subst (λ w. Some methods ≡ lookup (same_word w) known) same found) in
-    let there_as : lookup (same_word method) methods ≡ Some wanted = sym (subst (λ w. Some wanted ≡ lookup (same_word w) methods) same_method there) in (
-      ap (λ o. option_map_or (accepts method n) o false) known_as ∙ ap (λ o. option_map_or (λ w. w == n) o true) there_as,
-      ap (λ o. option_map_or (λ ms. is_none (lookup (same_word method) ms)) o false) known_as ∙ ap is_none there_as,
-    )
-
--- a method that isn't
-pub missing_method : (known : Known) (name class method_name method : List ℕ) (methods : List (List ℕ × ℕ)) (n : ℕ) → name ≡ class → method_name ≡ method
-    → Some methods ≡ lookup (same_word name) known → None ≡ lookup (same_word method_name) methods
-    → (fits known class method n ≡ true) × (lacks known class method ≡ true)
-missing_method known name class method_name method methods n same same_method found there =
-    let known_as : lookup (same_word class) known ≡ Some methods = sym (subst (λ w. Some methods ≡ lookup (same_word w) known) same found) in
-    let there_as : lookup (same_word method) methods ≡ None = sym (subst (λ w. None ≡ lookup (same_word w) methods) same_method there) in (
-      ap (λ o. option_map_or (accepts method n) o false) known_as ∙ ap (λ o. option_map_or (λ w. w == n) o true) there_as,
-      ap (λ o. option_map_or (λ ms. is_none (lookup (same_word method) ms)) o false) known_as ∙ ap is_none there_as,
-    )

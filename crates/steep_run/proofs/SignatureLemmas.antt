@@ -1,41 +1,21 @@
--- What a signature text gives, by its tree or its refusal.
+-- What a signature text gives, by its tree or its refusal, and what is declared then.
 use Rattle.std.proofs.Common.{◌≡◌, ℕ, Bool, true, false, List, [], ◌∷◌, refl, sym, ap, ◌∙◌, subst, Option, None, Some, IfOk, Result, Ok, Err}
-use Rattle.std.proofs.lemmas.Option.{none-some, same_Some}
 use Rattle.std.specs.Prelude.{if◌then◌else◌}
-use Rattle.std.specs.List.{list_all}
 use Rattle.src_text.specs.declared.span.Span.{Span}
 use Rattle.diagnostics.specs.declared.diagnostic.Diagnostic.{Diagnostic}
+use Rattle.core_sigs.specs.Core.{core}
 use Rattle.rbs_grammar.specs.Grammar.{Fault}
 use Rattle.rbs_grammar.specs.Parse.{Tree}
 use Rattle.rbs_grammar.specs.Texts.{HasTree, Answer, IsAnswer}
 use Rattle.rbs_grammar.proofs.Texts.{only_answer}
-use Rattle.steep_run.specs.Small.{Known, is_small_class, has_distinct_names, is_small, declared}
-use Rattle.steep_run.specs.Signature.{refusal_at, SignatureGives, classes, refusal}
-use Rattle.steep_run.specs.Reading.{tabled_classes, small_gift, ReadsSignature}
+use Rattle.sig_rules.specs.declared.files.Declared.{Declared}
+use Rattle.sig_rules.specs.declared.files.FileTree.{FileTree}
+use Rattle.sig_rules.specs.Declarations.{declared_in_all}
+use Rattle.definitions.specs.Project.{core_file, IsProject}
+use Rattle.steep_run.specs.Small.{is_small}
+use Rattle.steep_run.specs.Signature.{refusal_at, SignatureGives, small, refusal, signature_file, Declares}
+use Rattle.steep_run.specs.Reading.{small_gift, ReadsSignature}
 use Rattle.steep_run.specs.declared.signature.FoundSignature.{FoundSignature}
-use Rattle.steep_run.proofs.TestLemmas.{if_true, and_right, both_true}
-use Rattle.steep_run.proofs.TableLemmas.{tabled_complete, tabled_distinct}
-
--- ---- from the table to what is given
-
--- where there is a table of small classes the tree is small, and the table is what it declares
-pub gift_of_table : (tree : Tree) (known : Known) (faults : List Diagnostic) → list_all is_small_class tree ≡ true → Some known ≡ tabled_classes [] (declared tree) → faults ≡ []
-    → Some (record { known = known; faults = faults }) ≡ small_gift tree
-gift_of_table tree known faults plain made none =
-    let distinct : has_distinct_names (declared tree) ≡ true = tabled_distinct (declared tree) known (sym made) in
-    let same : known ≡ declared tree = same_Some known (declared tree) (made ∙ tabled_complete (declared tree) distinct) in
-    let gift : FoundSignature = record { known = declared tree; faults = [] } in
-    (λ i. Some (record { known = same i; faults = none i }))
-    ∙ sym (if_true (is_small tree) (Some gift) None (both_true (list_all is_small_class tree) (has_distinct_names (declared tree)) plain distinct))
-
--- where there is none it isn't
-pub no_table : (tree : Tree) → None ≡ tabled_classes [] (declared tree) → None ≡ small_gift tree
-no_table tree made = by_test (is_small tree) refl
-  where
-    by_test : (b : Bool) → is_small tree ≡ b → ◌≡◌ {A = Option FoundSignature} None (if b then Some (record { known = declared tree; faults = [] }) else None)
-    by_test false is = refl
-    by_test true is =
-        absurd (none-some (declared tree) (made ∙ tabled_complete (declared tree) (and_right (list_all is_small_class tree) (has_distinct_names (declared tree)) is)))
 
 -- ---- from the answer to what is given
 
@@ -46,19 +26,19 @@ if_ok (Err e) h f = tt
 pub tree_gives : (text : List ℕ) (tree : Tree) (found : Option FoundSignature) → HasTree text tree → found ≡ small_gift tree → ReadsSignature text found
 tree_gives text tree found has is = subst (ReadsSignature text) (sym is) (by_test (is_small tree) refl)
   where
-    by_test : (b : Bool) → is_small tree ≡ b → ReadsSignature text (if b then Some (record { known = declared tree; faults = [] }) else None)
-    by_test true small = classes tree has small refl refl
+    by_test : (b : Bool) → is_small tree ≡ b → ReadsSignature text (if b then Some (record { tree = tree; faults = [] }) else None)
+    by_test true passed = small has passed refl
     by_test false other = (tree, has, other)
 
 pub refusal_gives : (text : List ℕ) (fault : Fault) (span : Span) (found : Option FoundSignature) → IsAnswer text (Err (fault, span))
-    → found ≡ Some (record { known = []; faults = refusal_at fault span ∷ [] }) → ReadsSignature text found
+    → found ≡ Some (record { tree = []; faults = refusal_at fault span ∷ [] }) → ReadsSignature text found
 refusal_gives text fault span found is made = subst (ReadsSignature text) (sym made) (refusal fault span is refl refl)
 
 -- ---- one answer
 
 -- what a text gives is one thing
-pub record IsOneGift (known other : Known) (faults more : List Diagnostic) : Type 0 where
-  pub known_same : known ≡ other
+pub record IsOneGift (tree other : Tree) (faults more : List Diagnostic) : Type 0 where
+  pub tree_same : tree ≡ other
   pub faults_same : faults ≡ more
 
 ok_same : (x y : Tree) → ◌≡◌ {A = Answer} (Ok x) (Ok y) → x ≡ y
@@ -70,12 +50,28 @@ err_same f g a b h = let same : ◌≡◌ {A = Fault × Span} (f, a) (g, b) = cc
 ok_or_err : (x : Tree) (f : Fault) (a : Span) → ◌≡◌ {A = Answer} (Ok x) (Err (f, a)) → ⊥
 ok_or_err x f a h = cc
 
-pub one_gift : (text : List ℕ) (known other : Known) (faults more : List Diagnostic) → SignatureGives text known faults → SignatureGives text other more
-    → IsOneGift known other faults more
-one_gift text known other faults more (classes x a s k f) (classes y b t l g) =
-    let same = ok_same x y (only_answer text (Ok x) (Ok y) a b) in record { known_same = k ∙ ap declared same ∙ sym l; faults_same = f ∙ sym g }
-one_gift text known other faults more (classes x a s k f) (refusal e at b l g) = absurd (ok_or_err x e at (only_answer text (Ok x) (Err (e, at)) a b))
-one_gift text known other faults more (refusal e at a k f) (classes y b t l g) = absurd (ok_or_err y e at (only_answer text (Ok y) (Err (e, at)) b a))
-one_gift text known other faults more (refusal d at a k f) (refusal e there b l g) =
+pub one_gift : (text : List ℕ) (x y : Tree) (faults more : List Diagnostic) → SignatureGives text x faults → SignatureGives text y more → IsOneGift x y faults more
+one_gift text x y faults more (small a s f) (small b t g) = record { tree_same = ok_same x y (only_answer text (Ok x) (Ok y) a b); faults_same = f ∙ sym g }
+one_gift text x y faults more (small a s f) (refusal e at b l g) = absurd (ok_or_err x e at (only_answer text (Ok x) (Err (e, at)) a b))
+one_gift text x y faults more (refusal e at a k f) (small b t g) = absurd (ok_or_err y e at (only_answer text (Ok y) (Err (e, at)) b a))
+one_gift text x y faults more (refusal d at a k f) (refusal e there b l g) =
     let same = err_same d e at there (only_answer text (Err (d, at)) (Err (e, there)) a b) in
-    record { known_same = k ∙ sym l; faults_same = f ∙ (λ i. refusal_at (same.0 i) (same.1 i) ∷ []) ∙ sym g }
+    record { tree_same = k ∙ sym l; faults_same = f ∙ (λ i. refusal_at (same.0 i) (same.1 i) ∷ []) ∙ sym g }
+
+-- files are all that is declared, behind the one tree of the core signatures
+pub one_project : (files : List FileTree) (xs ys : List Declared) → IsProject files xs → IsProject files ys → xs ≡ ys
+one_project files xs ys a b =
+    a.2 ∙ ap (λ (tree : Tree). declared_in_all (core_file tree ∷ files)) (ok_same a.0 b.0 (only_answer core (Ok a.0) (Ok b.0) a.1 b.1)) ∙ sym b.2
+
+-- what is declared with a text is one thing
+pub record IsOneDeclared (xs ys : List Declared) (faults more : List Diagnostic) : Type 0 where
+  pub all_same : xs ≡ ys
+  pub faults_same : faults ≡ more
+
+pub one_declared : (text : List ℕ) (xs ys : List Declared) (faults more : List Diagnostic) → Declares text xs faults → Declares text ys more → IsOneDeclared xs ys faults more
+one_declared text xs ys faults more a b =
+    let gift = one_gift text a.tree b.tree faults more a.gives b.gives in
+    record {
+      all_same = one_project (signature_file a.tree ∷ []) xs ys a.project (subst (λ (t : Tree). IsProject (signature_file t ∷ []) ys) (sym gift.tree_same) b.project);
+      faults_same = gift.faults_same;
+    }

@@ -1,3 +1,4 @@
+pub mod Calls
 pub mod Project
 pub mod Reading
 pub mod Report

@@ -5,14 +5,12 @@ use Rattle.std.specs.Str.Lossy.{utf8_lossy}
 use Rattle.ports.specs.Tree.{bytes_at}
 use Rattle.diagnostics.specs.declared.diagnostic.Diagnostic.{Diagnostic}
 use Rattle.diagnostics.specs.Lines.{diagnostic_line, summary}
+use Rattle.steep_run.specs.Signature.{signature_path}
 use Rattle.steep_run.specs.Words.{same_word}
 use Rattle.steep_run.specs.declared.faults.Faults.{Faults}
 use Rattle.steep_run.specs.declared.project.Project.{Project}
 
--- the paths of the project's two files
-abbrev pub signature_path : List ℕ
-signature_path = codes "sig/a.rbs"
-
+-- the path of the Ruby file
 abbrev pub ruby_path : List ℕ
 ruby_path = codes "lib/a.rb"
 

@@ -1,51 +1,115 @@
 -- How the readers go, one entry and one byte at a time, and what each part of a check answers. This is checked against what is small, and
 -- nothing rests on it.
-use Rattle.std.specs.Prelude.{◌≡◌, ◌<◌, IsTrue, ℕ, ◌+◌, is_none, Bool, true, false, ◌==◌, ◌&&◌, nat_lt, List, [], ◌∷◌, ◌++◌, map, Option, None, Some, if◌then◌else◌}
+use Rattle.std.specs.Prelude.{◌≡◌, ◌<◌, IsTrue, ℕ, ◌+◌, is_none, Bool, true, false, not, ◌==◌, ◌&&◌, nat_lt, List, [], ◌∷◌, ◌++◌, map, Option, None, Some, if◌then◌else◌}
 use Rattle.std.specs.List.{list_all}
-use Rattle.std.specs.Map.{lookup}
+use Rattle.std.specs.Option.{option_map, option_or}
 use Rattle.std.specs.Io.KnownBytes.{Appends, Keeps}
 use Rattle.diagnostics.specs.declared.diagnostic.Diagnostic.{Diagnostic}
-use Rattle.steep_run.specs.Words.{is_digit, same_word, begins, is_ascii_word_byte, is_mark_byte}
 use Rattle.rbs_grammar.specs.Parse.{Tree}
-use Rattle.steep_run.specs.Small.{Known, is_small, declared}
+use Rattle.sig_rules.specs.declared.files.Declared.{Declared}
+use Rattle.sig_rules.specs.declared.limits.Limit.{Limit}
+use Rattle.sig_rules.specs.declared.limits.Limit.TheVariants.{Names, Methods}
+use Rattle.sig_rules.specs.declared.limits.LimitFault.{LimitFault}
+use Rattle.sig_rules.specs.declared.limits.LimitFault.TheVariants as problem
+use Rattle.sig_rules.specs.declared.line.Kind.TheVariants.{Instance}
+use Rattle.sig_rules.specs.declared.method.Method.{Method}
+use Rattle.sig_rules.specs.Declarations.{Path}
+use Rattle.sig_rules.specs.Methods.{method}
+use Rattle.sig_rules.specs.Worlds.{by_name}
+use Rattle.steep_run.specs.Words.{is_digit, same_word, begins, is_ascii_word_byte, is_mark_byte}
+use Rattle.steep_run.specs.Small.{is_small}
 use Rattle.steep_run.specs.Signature.{SignatureGives, HasOtherTree}
-use Rattle.steep_run.specs.Ruby.{Line, Call, filled, call_line, is_plain_call, call_fits, faults_of, is_mark, fits, lacks, fault_at}
+use Rattle.steep_run.specs.Calls.{integers_wanted, is_public, class_made, fits, lacks}
+use Rattle.steep_run.specs.Ruby.{Line, Call, filled, call_line, is_plain_call, call_fits, faults_of, is_mark, fault_at}
 use Rattle.steep_run.specs.Project.{count_of, report}
-use Rattle.steep_run.specs.Report.{HasFaults, HasOtherRuby, GainsPrefix}
+use Rattle.steep_run.specs.Report.{HasFaults, PassesLimit, HasOtherRuby, GainsPrefix}
 use Rattle.steep_run.specs.declared.faults.Faults.{Faults}
 use Rattle.steep_run.specs.declared.project.Project.{Project}
 use Rattle.steep_run.specs.declared.outcome.Outcome.{Outcome}
 use Rattle.steep_run.specs.declared.outcome.Outcome.TheVariants.{NoMemory, TreeFault, TooLarge, Unbuilt, SinkFault, Found, Clean}
 use Rattle.steep_run.specs.declared.check.Verdict.{Verdict}
-use Rattle.steep_run.specs.declared.check.Verdict.TheVariants.{NoSignature, NoRuby, Checked}
+use Rattle.steep_run.specs.declared.check.Verdict.TheVariants.{NoSignature, TooManyNames, TooManyMethods, NoRuby, Checked}
 use Rattle.steep_run.specs.declared.signature.FoundSignature.{FoundSignature}
+use Rattle.steep_run.specs.declared.ruby.callable.Callable.{Callable}
+use Rattle.steep_run.specs.declared.ruby.callable.Callable.TheVariants.{Private, Plain, Other}
 use Rattle.steep_run.specs.declared.ruby.numbers.Numbers.{Numbers}
 use Rattle.steep_run.specs.declared.ruby.numbers.Place.{Place}
 use Rattle.steep_run.specs.declared.ruby.numbers.Place.TheVariants.{Before, Digits, BehindComma, Behind}
 use Rattle.steep_run.specs.declared.ruby.text.Judgement.{Judgement}
-use Rattle.steep_run.specs.declared.ruby.text.Judgement.TheVariants.{Misfit, Declared, Missing}
+use Rattle.steep_run.specs.declared.ruby.text.Judgement.TheVariants.{Misfit, Known, Missing}
 
--- a table with one more entry, or none where its name is there
-abbrev pub added : {V : Type 0} → List (List ℕ × V) → List ℕ → V → Option (List (List ℕ × V))
-added table name value = if is_none (lookup (same_word name) table) then Some (table ++ (name, value) ∷ []) else None
+-- ---- distinct names
 
--- the table of some entries behind others, or none where a name stands twice
-abbrev pub tabled : {V : Type 0} → List (List ℕ × V) → List (List ℕ × V) → Option (List (List ℕ × V))
-tabled table [] = Some table
-tabled table (e ∷ es) = elim (added table e.0 e.1) [ None ↦ None | Some next ↦ tabled next es ]
+-- whether a table has no value for each of these names
+abbrev pub is_apart : {V : Type 0} → List (List ℕ × V) → List (List ℕ) → Bool
+is_apart table = list_all (λ word. is_none (by_name table word))
 
--- a table with one more class, or none where its name is there or a method of it stands twice
-abbrev pub added_class : Known → List ℕ → List (List ℕ × ℕ) → Option Known
-added_class table name methods = elim (tabled [] methods) [ None ↦ None | Some ms ↦ added table name ms ]
+-- whether a name is new in a table and is put there, so that it alone has a value besides those that had one
+abbrev pub IsNoted : {V : Type 0} → List (List ℕ × V) → List (List ℕ × V) → List ℕ → Bool → Type 0
+IsNoted old new word false = is_none (by_name old word) ≡ false
+IsNoted old new word true =
+    (is_none (by_name old word) ≡ true) × ((other : List ℕ) → is_none (by_name new other) ≡ (not (same_word word other) && is_none (by_name old other)))
 
--- the table of some classes behind others, or none where a name stands twice
-abbrev pub tabled_classes : Known → Known → Option Known
-tabled_classes table [] = Some table
-tabled_classes table (c ∷ cs) = elim (added_class table c.0 c.1) [ None ↦ None | Some next ↦ tabled_classes next cs ]
+-- the same of a name that may be absent
+abbrev pub IsNotedIfAny : {V : Type 0} → List (List ℕ × V) → List (List ℕ × V) → Option (List ℕ) → Bool → Type 0
+IsNotedIfAny old new None is_new = (is_new ≡ true) × (new ≡ old)
+IsNotedIfAny old new (Some word) is_new = IsNoted old new word is_new
+
+-- ---- signatures
 
 -- what a small tree gives, and none where it isn't small
 abbrev pub small_gift : Tree → Option FoundSignature
-small_gift tree = if is_small tree then Some (record { known = declared tree; faults = [] }) else None
+small_gift tree = if is_small tree then Some (record { tree = tree; faults = [] }) else None
+
+-- what a reader of signatures answers: what the text gives, or none where it gives nothing
+abbrev pub ReadsSignature : List ℕ → Option FoundSignature → Type 0
+ReadsSignature text None = HasOtherTree text
+ReadsSignature text (Some found) = SignatureGives text found.tree found.faults
+
+-- ---- calls
+
+-- what calls of a method are judged by
+abbrev pub callable_of : Method → Callable
+callable_of m = if is_public m.visible then elim (integers_wanted m.overloads) [ None ↦ Other | Some n ↦ Plain n ] else Private
+
+-- a method that isn't there is as a private one
+abbrev pub or_private : Option Callable → Callable
+or_private None = Private
+or_private (Some c) = c
+
+abbrev pub is_private : Callable → Bool
+is_private Private = true
+is_private _ = false
+
+-- whether a call with so many numbers may be judged
+abbrev pub suits : ℕ → Callable → Bool
+suits n Private = true
+suits n (Plain wanted) = wanted == n
+suits n Other = false
+
+-- whether a method is public, and plain for no numbers
+abbrev pub is_plain_alone : Callable → Bool
+is_plain_alone (Plain wanted) = wanted == 0
+is_plain_alone _ = false
+
+-- a value that is found, or else that of another name
+abbrev pub found_or : {V : Type 0} → Option V → Bool → V → Option V
+found_or found named value = option_or found (if named then Some value else None)
+
+-- a table has of each name what calls of the instances' method are judged by
+abbrev pub HoldsCallables : List Declared → Path → List (List ℕ × Callable) → Type 0
+HoldsCallables all path table = (name : List ℕ) → by_name table name ≡ option_map callable_of (method all path Instance name)
+
+-- what is known of a word's class: nothing where `new` of it makes no object, or else what calls of its methods are judged by
+abbrev pub IsCalled : List Declared → List ℕ → Option (List (List ℕ × Callable)) → Type 0
+IsCalled all word None = class_made all word ≡ None
+IsCalled all word (Some table) = (path : Path) × (class_made all word ≡ Some path) × HoldsCallables all path table
+
+-- the classes that a table has are what they are
+abbrev pub AreCalled : List Declared → List (List ℕ × List (List ℕ × Callable)) → Type 0
+AreCalled all classes = (word : List ℕ) (table : List (List ℕ × Callable)) → by_name classes word ≡ Some table → IsCalled all word (Some table)
+
+-- ---- numbers in brackets
 
 -- before the numbers that a line ends with
 abbrev pub new_numbers : Numbers
@@ -86,30 +150,42 @@ pub record IsMethod (bytes method rest : List ℕ) : Type 0 where
   pub marked : IsTrue (is_mark mark)
   pub unmarked : begins is_mark_byte (mark ++ rest) ≡ begins is_mark_byte mark
 
+-- ---- lines and texts
+
 -- what a line adds to the faults, or that no call can be read in it and what follows
-abbrev pub ReadsLine : Known → ℕ → List ℕ → Bool → List Diagnostic → List Diagnostic → Type 0
-ReadsLine known at line true old new =
+abbrev pub ReadsLine : List Declared → ℕ → List ℕ → Bool → List Diagnostic → List Diagnostic → Type 0
+ReadsLine all at line true old new =
     (calls : List Call) × (filled (record { start = at; text = line }) ≡ map call_line calls) × IsTrue (list_all is_plain_call calls)
-    × IsTrue (list_all (call_fits known) calls) × (new ≡ old ++ faults_of known calls)
-ReadsLine known at line false old new =
+    × IsTrue (list_all (call_fits all) calls) × (new ≡ old ++ faults_of all calls)
+ReadsLine all at line false old new =
     (calls : List Call) (more : List Line) → filled (record { start = at; text = line }) ++ more ≡ map call_line calls → IsTrue (list_all is_plain_call calls)
-    → IsTrue (list_all (call_fits known) calls) → ⊥
+    → IsTrue (list_all (call_fits all) calls) → ⊥
 
--- what a signature says of a call
-abbrev pub IsJudged : Known → ℕ → List ℕ → List ℕ → ℕ → Judgement → Type 0
-IsJudged known start class method n Misfit = fits known class method n ≡ false
-IsJudged known start class method n Declared = (fits known class method n ≡ true) × (lacks known class method ≡ false)
-IsJudged known start class method n (Missing fault) =
-    (fits known class method n ≡ true) × (lacks known class method ≡ true) × (fault ≡ fault_at start class method)
+-- what is said of a call by whether it fits and whether its method is lacking
+abbrev pub IsJudgedBy : Bool → Bool → ℕ → List ℕ → List ℕ → Judgement → Type 0
+IsJudgedBy fits lacks start class name Misfit = fits ≡ false
+IsJudgedBy fits lacks start class name Known = (fits ≡ true) × (lacks ≡ false)
+IsJudgedBy fits lacks start class name (Missing fault) = (fits ≡ true) × (lacks ≡ true) × (fault ≡ fault_at start class name)
 
--- what a reader of signatures answers: what the text gives, or none where it gives nothing
-abbrev pub ReadsSignature : List ℕ → Option FoundSignature → Type 0
-ReadsSignature text None = HasOtherTree text
-ReadsSignature text (Some found) = SignatureGives text found.known found.faults
+-- what is said of a call over what is declared
+abbrev pub IsJudged : List Declared → ℕ → List ℕ → List ℕ → ℕ → Judgement → Type 0
+IsJudged all start class name n = IsJudgedBy (fits all class name n) (lacks all class name) start class name
+
+-- what is told of a limit that is passed
+abbrev pub passed : Limit → ℕ → Option Verdict
+passed Names n = Some (TooManyNames n)
+passed Methods n = Some (TooManyMethods n)
+passed _ n = None
+
+abbrev pub too_much : LimitFault → Option Verdict
+too_much (problem.Limit limit n) = passed limit n
+too_much problem.NoMemory = None
 
 -- what the texts of a project are found to be
 abbrev pub IsChecked : Project → Verdict → Type 0
 IsChecked p NoSignature = HasOtherTree p.signature
+IsChecked p (TooManyNames n) = PassesLimit p Names n
+IsChecked p (TooManyMethods n) = PassesLimit p Methods n
 IsChecked p NoRuby = HasOtherRuby p
 IsChecked p (Checked faults) = HasFaults p faults
 

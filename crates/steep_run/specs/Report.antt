@@ -5,32 +5,49 @@ use Rattle.std.specs.Io.KnownBytes.{Appends, Keeps}
 use Rattle.ports.specs.Causes.{Rose}
 use Rattle.diagnostics.specs.Lines.{joined}
 use Rattle.diagnostics.specs.declared.diagnostic.Diagnostic.{Diagnostic}
+use Rattle.rbs_grammar.specs.Parse.{Tree}
+use Rattle.sig_rules.specs.declared.files.Declared.{Declared}
+use Rattle.sig_rules.specs.declared.limits.Limit.{Limit}
+use Rattle.sig_rules.specs.declared.limits.Limit.TheVariants.{File, Files, Total, Names, Methods}
+use Rattle.sig_rules.specs.declared.limits.LimitFault.TheVariants as problem
+use Rattle.sig_rules.specs.Counts.{IsLimitFault}
 use Rattle.steep_run.specs.Words.{same_word}
 use Rattle.steep_run.specs.Project.{first_too_long, count_of, report}
-use Rattle.steep_run.specs.Small.{Known}
-use Rattle.steep_run.specs.Signature.{SignatureGives, HasOtherTree}
+use Rattle.definitions.specs.Project.{IsProject}
+use Rattle.steep_run.specs.Signature.{SignatureGives, HasOtherTree, signature_file, Declares, IsWithinLimits}
 use Rattle.steep_run.specs.Ruby.{Call, IsRuby, faults_of}
 use Rattle.steep_run.specs.declared.faults.Faults.{Faults}
 use Rattle.steep_run.specs.declared.project.Project.{Project}
-use Rattle.steep_run.specs.declared.outcome.Limit.{Limit}
-use Rattle.steep_run.specs.declared.outcome.Limit.TheVariants.{File}
 use Rattle.steep_run.specs.declared.outcome.Outcome.{Outcome}
 use Rattle.steep_run.specs.declared.outcome.Outcome.TheVariants.{NoMemory, TreeFault, TooLarge, Unbuilt, SinkFault, Found, Clean}
 use Rattle.steep_run.specs.declared.outcome.Part.TheVariants.{Words, Signature, Ruby}
 
--- No text of the project is too long, what its signature gives is known, its Ruby text is small over that, and these are the faults of the
--- two, in the order of each text.
+-- No text of the project is too long, its signatures declare no more than they may, its Ruby text is small over what they declare, and
+-- these are the faults of the two texts, in the order of each.
 pub record HasFaults (p : Project) (faults : Faults) : Type 0 where
-  pub known : Known
+  pub all : List Declared
   pub calls : List Call
   pub sizes : first_too_long p ≡ None
-  pub signature : SignatureGives p.signature known faults.signature
-  pub ruby : IsRuby known p.ruby calls
-  pub ruby_faults : faults.ruby ≡ faults_of known calls
+  pub signature : Declares p.signature all faults.signature
+  pub limits : IsWithinLimits all
+  pub ruby : IsRuby all p.ruby calls
+  pub ruby_faults : faults.ruby ≡ faults_of all calls
 
--- The Ruby text isn't small over what the signature gives.
-abbrev pub HasOtherRuby : Project → Type 0
-HasOtherRuby p = (known : Known) × (faults : List Diagnostic) × SignatureGives p.signature known faults × ((calls : List Call) → ¬ IsRuby known p.ruby calls)
+-- The project's signatures declare more than they may: there is so much of what the limit counts. This is said of all that they declare by any
+-- tree of the core signatures, of which there is no second one.
+pub record PassesLimit (p : Project) (limit : Limit) (n : ℕ) : Type 0 where
+  pub tree : Tree
+  pub faults : List Diagnostic
+  pub gives : SignatureGives p.signature tree faults
+  pub passed : (all : List Declared) → IsProject (signature_file tree ∷ []) all → IsLimitFault all (problem.Limit limit n)
+
+-- The Ruby text isn't small over what the signatures declare, which is no more than they may.
+pub record HasOtherRuby (p : Project) : Type 0 where
+  pub all : List Declared
+  pub faults : List Diagnostic
+  pub signature : Declares p.signature all faults
+  pub limits : IsWithinLimits all
+  pub ruby : (calls : List Call) → ¬ IsRuby all p.ruby calls
 
 -- known bytes grew by a part of these, from their front
 abbrev pub GainsPrefix : Option (List ℕ) → Option (List ℕ) → List ℕ → Type 0
@@ -44,6 +61,10 @@ Reports p old new SinkFault = (faults : Faults) × HasFaults p faults × GainsPr
 Reports p old new NoMemory = Keeps old new
 Reports p old new TreeFault = Keeps old new
 Reports p old new (TooLarge File n) = Keeps old new × (first_too_long p ≡ Some n)
+Reports p old new (TooLarge Names n) = Keeps old new × (first_too_long p ≡ None) × PassesLimit p Names n
+Reports p old new (TooLarge Methods n) = Keeps old new × (first_too_long p ≡ None) × PassesLimit p Methods n
+Reports p old new (TooLarge Files n) = ⊥
+Reports p old new (TooLarge Total n) = ⊥
 Reports p old new (Unbuilt Words) = Keeps old new
 Reports p old new (Unbuilt Signature) = Keeps old new × (first_too_long p ≡ None) × HasOtherTree p.signature
 Reports p old new (Unbuilt Ruby) = Keeps old new × (first_too_long p ≡ None) × HasOtherRuby p
@@ -81,6 +102,10 @@ status_of (Unbuilt part) = 10
 -- how a limit is named
 abbrev pub limit_name : Limit → List ℕ
 limit_name File = codes "File"
+limit_name Files = codes "Files"
+limit_name Total = codes "Total"
+limit_name Names = codes "Names"
+limit_name Methods = codes "Methods"
 
 -- what the program writes to standard error, if anything, without the line's end
 abbrev pub line_of : Outcome → Option (List ℕ)

@@ -1,11 +1,10 @@
 -- Small Ruby texts: each line is empty or calls a method on a new object of a class, as `Foo.new.bar(1, 2)`.
-use Rattle.std.specs.Prelude.{◌≡◌, ◌+◌, ℕ, Bool, true, false, not, ◌&&◌, ◌||◌, ◌==◌, nat_le, nat_lt, IsTrue, List, [], ◌∷◌, ◌++◌, length, map, filter, codes, Option, None, Some, is_none, if◌then◌else◌}
+use Rattle.std.specs.Prelude.{◌≡◌, ◌+◌, ℕ, Bool, not, ◌&&◌, ◌||◌, nat_le, nat_lt, IsTrue, List, [], ◌∷◌, ◌++◌, length, map, filter, codes, Option, None, Some, if◌then◌else◌}
 use Rattle.std.specs.List.{list_all, flat_map}
-use Rattle.std.specs.Option.{option_map_or}
-use Rattle.std.specs.Map.{lookup}
 use Rattle.diagnostics.specs.declared.code.Code.TheVariants.{NoMethod}
 use Rattle.diagnostics.specs.declared.diagnostic.Diagnostic.{Diagnostic}
-use Rattle.steep_run.specs.Small.{Known}
+use Rattle.sig_rules.specs.declared.files.Declared.{Declared}
+use Rattle.steep_run.specs.Calls.{fits, lacks}
 use Rattle.steep_run.specs.Words.{is_upper, is_digit, is_line_end, begins, same_word, is_ascii_word_byte, is_lower_byte, is_keyword}
 
 -- a line of a text without its ending, and the offset at which it begins
@@ -67,31 +66,19 @@ is_plain_call c = (list_all is_ascii_word_byte c.class && begins is_upper c.clas
     && ((list_all is_ascii_word_byte c.word && begins is_lower_byte c.word)
     && (is_mark c.mark && (not (is_keyword (method_name c)) && list_all is_number c.numbers)))
 
--- whether a method of these, if there is one of the name, takes so many numbers
-abbrev pub accepts : List ℕ → ℕ → List (List ℕ × ℕ) → Bool
-accepts method n methods = option_map_or (λ wanted. wanted == n) (lookup (same_word method) methods) true
-
--- whether the class is known, and its method, if it has it, takes so many numbers
-abbrev pub fits : Known → List ℕ → List ℕ → ℕ → Bool
-fits known class method n = option_map_or (accepts method n) (lookup (same_word class) known) false
-
--- whether the class is known and lacks the method
-abbrev pub lacks : Known → List ℕ → List ℕ → Bool
-lacks known class method = option_map_or (λ methods. is_none (lookup (same_word method) methods)) (lookup (same_word class) known) false
-
-abbrev pub call_fits : Known → Call → Bool
-call_fits known c = fits known c.class (method_name c) (length c.numbers)
+abbrev pub call_fits : List Declared → Call → Bool
+call_fits all c = fits all c.class (method_name c) (length c.numbers)
 
 -- a small Ruby text: its lines that aren't empty are these calls, as they are written
-pub record IsRuby (known : Known) (text : List ℕ) (calls : List Call) : Type 0 where
+pub record IsRuby (all : List Declared) (text : List ℕ) (calls : List Call) : Type 0 where
   pub written : filled_lines 0 text ≡ map call_line calls
   pub plain : IsTrue (list_all is_plain_call calls)
-  pub fit : IsTrue (list_all (call_fits known) calls)
+  pub fit : IsTrue (list_all (call_fits all) calls)
 
 unfoldable pub fault_text : List ℕ → List ℕ → List ℕ
 fault_text class method = codes "Type `::" ++ (class ++ (codes "` does not have method `" ++ (method ++ codes "`")))
 
--- the fault at a method's name that its class doesn't declare
+-- the fault at the name of a method that an object lacks; where nothing encloses it, a class's full name is `::` and its word
 abbrev pub fault_at : ℕ → List ℕ → List ℕ → Diagnostic
 fault_at start class method =
     let at = start + (length class + 5) in
@@ -106,8 +93,8 @@ abbrev pub fault_of : Call → Diagnostic
 fault_of c = fault_at c.start c.class (method_name c)
 
 -- the faults of the calls, in the text's order
-abbrev pub faults_of : Known → List Call → List Diagnostic
-faults_of known calls = map fault_of (filter (λ (c : Call). lacks known c.class (method_name c)) calls)
+abbrev pub faults_of : List Declared → List Call → List Diagnostic
+faults_of all calls = map fault_of (filter (λ (c : Call). lacks all c.class (method_name c)) calls)
 
 -- a line is this call
 pub record IsCall (line : List ℕ) (start : ℕ) (class method : List ℕ) (n : ℕ) : Type 0 where
@@ -123,6 +110,6 @@ abbrev pub IsNoCall : ℕ → List ℕ → Type 0
 IsNoCall start line = (c : Call) → IsTrue (is_plain_call c) → call_line c ≡ record { start = start; text = line } → ⊥
 
 -- what a reader of Ruby texts answers: the faults, or none where the text isn't small
-abbrev pub ReadsRuby : Known → List ℕ → Option (List Diagnostic) → Type 0
-ReadsRuby known text None = (calls : List Call) → ¬ IsRuby known text calls
-ReadsRuby known text (Some faults) = (calls : List Call) × IsRuby known text calls × (faults_of known calls ≡ faults)
+abbrev pub ReadsRuby : List Declared → List ℕ → Option (List Diagnostic) → Type 0
+ReadsRuby all text None = (calls : List Call) → ¬ IsRuby all text calls
+ReadsRuby all text (Some faults) = (calls : List Call) × IsRuby all text calls × (faults_of all calls ≡ faults)

@@ -1,7 +1,7 @@
 -- Small signatures: classes with methods that take Integers. Whether a signature is small is told by its tree, and not by how it is
 -- written.
-use Rattle.std.specs.Prelude.{ℕ, Bool, true, false, not, ◌&&◌, ◌||◌, is_some, is_none, List, [], ◌∷◌, length, map, codes, Option, None, Some, if◌then◌else◌}
-use Rattle.std.specs.List.{list_all, list_any, flat_map}
+use Rattle.std.specs.Prelude.{ℕ, Bool, true, false, not, ◌&&◌, ◌||◌, is_some, is_none, List, [], ◌∷◌, codes, Option, None, Some, if◌then◌else◌}
+use Rattle.std.specs.List.{list_all, list_any}
 use Rattle.std.specs.Option.{option_map_or}
 use Rattle.rbs_lexer.specs.Words.{is_word}
 use Rattle.rbs_tree.specs.declared.names.TypeName.{TypeName}
@@ -19,6 +19,7 @@ use Rattle.rbs_tree.specs.declared.decls.Decl.{Decl}
 use Rattle.rbs_tree.specs.declared.decls.Decl.TheOpen.{Decl-F, Member-F}
 use Rattle.rbs_tree.specs.declared.decls.Decl.TheViews.{out-Decl, out-Member}
 use Rattle.rbs_tree.specs.declared.decls.Member.{Member}
+use Rattle.sig_rules.specs.Lines.{members}
 use Rattle.rbs_grammar.specs.Parse.{Tree}
 use Rattle.steep_run.specs.Words.{is_upper, is_digit, begins, same_word, is_interface_name}
 
@@ -105,51 +106,45 @@ is_class_in _ = false
 abbrev pub is_small_class : Decl → Bool
 is_small_class decl = is_class_in (out-Decl decl)
 
--- ---- what is declared
+-- ---- names
 
--- each class by its name, with its methods by name and the number of parameters of each; names are bytes
-abbrev pub Known : Type 0
-Known = List (List ℕ × List (List ℕ × ℕ))
+-- a word in front of others, if there is one
+abbrev pub with_word : Option (List ℕ) → List (List ℕ) → List (List ℕ)
+with_word None words = words
+with_word (Some word) words = word ∷ words
 
--- a method by its name, with the number of its parameters
-abbrev pub method_in : Member-F Decl Member → List (List ℕ × ℕ)
-method_in (Member-F.Def name at side public (overload ∷ overloads) more) = (name, length (out-MethodType overload).required) ∷ []
-method_in _ = []
+-- the words that name some items, of those that have one
+abbrev pub words_by : {A : Type 0} → (A → Option (List ℕ)) → List A → List (List ℕ)
+words_by word [] = []
+words_by word (x ∷ xs) = with_word (word x) (words_by word xs)
 
-abbrev pub method_of : Member → List (List ℕ × ℕ)
-method_of member = method_in (out-Member member)
+-- the name of a member that is a method
+abbrev pub method_name_in : Member-F Decl Member → Option (List ℕ)
+method_name_in (Member-F.Def name at side public overloads more) = Some name
+method_name_in _ = None
 
--- a class by its name, with its methods
-abbrev pub named_class : List Member → Option (List ℕ) → Known
-named_class members None = []
-named_class members (Some word) = (word, flat_map method_of members) ∷ []
+abbrev pub method_name : Member → Option (List ℕ)
+method_name member = method_name_in (out-Member member)
 
-abbrev pub known_class_in : Decl-F Decl Member → Known
-known_class_in (Decl-F.Class name params superclass members) = named_class members (word_of name)
-known_class_in _ = []
+-- the one word that names a declaration that is a class
+abbrev pub class_word_in : Decl-F Decl Member → Option (List ℕ)
+class_word_in (Decl-F.Class name params superclass members) = word_of name
+class_word_in _ = None
 
-abbrev pub known_class : Decl → Known
-known_class decl = known_class_in (out-Decl decl)
+abbrev pub class_word : Decl → Option (List ℕ)
+class_word decl = class_word_in (out-Decl decl)
 
--- what a tree declares
-abbrev pub declared : Tree → Known
-declared = flat_map known_class
+-- whether no word stands twice
+abbrev pub all_distinct : List (List ℕ) → Bool
+all_distinct [] = true
+all_distinct (word ∷ words) = not (list_any (same_word word) words) && all_distinct words
+
+-- whether no method stands twice in a declaration
+abbrev pub has_distinct_methods : Decl → Bool
+has_distinct_methods decl = all_distinct (words_by method_name (members decl))
 
 -- ---- small trees
 
--- whether no name stands twice
-abbrev pub all_distinct : List (List ℕ) → Bool
-all_distinct [] = true
-all_distinct (n ∷ ns) = not (list_any (same_word n) ns) && all_distinct ns
-
--- the names of what stands by name
-abbrev pub names_of : {V : Type 0} → List (List ℕ × V) → List (List ℕ)
-names_of = map (λ e. e.0)
-
--- no class stands twice, and no method twice in a class
-abbrev pub has_distinct_names : Known → Bool
-has_distinct_names known = all_distinct (names_of known) && list_all (λ c. all_distinct (names_of c.1)) known
-
--- a small tree: its declarations are such classes, and their names are distinct
+-- a small tree: its declarations are such classes, no class stands twice, and no method twice in a class
 abbrev pub is_small : Tree → Bool
-is_small tree = list_all is_small_class tree && has_distinct_names (declared tree)
+is_small tree = list_all is_small_class tree && (all_distinct (words_by class_word tree) && list_all has_distinct_methods tree)

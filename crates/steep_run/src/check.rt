@@ -1,22 +1,27 @@
-ghost use Rattle.std.specs.Prelude.{◌≡◌, ◌⊎◌, ◌≤◌, ◌<◌, ◌^◌, ◌↔◌, IfSome, IfOk, None, map, string_bytes, length, codes, false};
+ghost use Rattle.std.specs.Prelude.{◌≡◌, ◌⊎◌, ◌≤◌, ◌<◌, ◌^◌, ◌↔◌, IfSome, IfOk, Some, None, map, string_bytes, length, codes, false};
 ghost use Rattle.steep_run.specs.declared.faults.Faults.{Faults};
 ghost use Rattle.steep_run.specs.declared.project.Project.{Project};
 ghost use Rattle.ports.specs.Causes.{Rose};
 ghost use Rattle.steep_run.specs.Project.{project_of, first_too_long, count_of};
 ghost use Rattle.steep_run.specs.Report.{Reports, HasFaults, IsSilent, is_check, HasCauses};
-ghost use Rattle.steep_run.specs.Reading.{IsChecked, Writes};
+ghost use Rattle.steep_run.specs.Reading.{IsChecked, Writes, passed, too_much};
+ghost use Rattle.steep_run.specs.Signature.{SignatureGives, Declares, IsWithinLimits};
 
 use crate::faults::Faults;
-use crate::outcome::{Limit, Outcome, Part};
+use crate::outcome::{Outcome, Part};
 use crate::plan::{CheckPlan, is_check_alone};
-use crate::project::{Project, first_too_long, read_project};
+use crate::project::{Project, SIGNATURE, first_too_long, read_project};
 use crate::report::report_text;
 use crate::ruby::faults;
-use crate::signature::read_signature;
+use crate::signature::{FoundSignature, read_signature};
 use crate::writing::write_all;
+use definitions::FreshTable;
+use diagnostics::Diagnostic;
 use ports::{Gate, Sink, Source, Tree, TreeFault};
-use src_text::{Mem, Text};
+use sig_rules::{FileTree, Limit, LimitFault, Members};
+use src_text::{Mem, NoMemory, Seq, Text};
 use std::alloc::Global;
+use std::slice;
 use std::sync::Wait;
 use std::thread::Threads;
 
@@ -92,6 +97,8 @@ fn report_to<K: Sink>(alloc: Global, sink: &mut K, project: &Project) -> Outcome
     }
     match checked(alloc, project) {
         Ok(Verdict::NoSignature) => Outcome::Unbuilt(Part::Signature),
+        Ok(Verdict::TooManyNames(count)) => Outcome::TooLarge(Limit::Names, count),
+        Ok(Verdict::TooManyMethods(count)) => Outcome::TooLarge(Limit::Methods, count),
         Ok(Verdict::NoRuby) => Outcome::Unbuilt(Part::Ruby),
         Ok(Verdict::Checked(faults)) => write_report(alloc, sink, project, &faults),
         Err(_) => Outcome::NoMemory,
@@ -103,9 +110,13 @@ fn report_to<K: Sink>(alloc: Global, sink: &mut K, project: &Project) -> Outcome
 pub enum Verdict {
     /// The signature has a tree that isn't small.
     NoSignature,
-    /// It has none such, and the Ruby text isn't small.
+    /// So many names are declared, and they are too many.
+    TooManyNames(u64),
+    /// Some definition has so many methods, and they are too many.
+    TooManyMethods(u64),
+    /// None of these is so, and the Ruby text isn't small.
     NoRuby,
-    /// Both are checked, with these faults.
+    /// Both texts are checked, with these faults.
     Checked(Faults),
 }
 
@@ -113,15 +124,63 @@ fn checked(alloc: Global, project: &Project) -> Mem<Verdict>
     requires { first_too_long project.now ≡ None }
     ensures { IfOk result (IsChecked project.now) }
 {
-    let found = match read_signature(alloc, project.signature.as_str())? {
-        Some(found) => found,
-        None => return Ok(Verdict::NoSignature),
+    match read_signature(alloc, project.signature.as_str())? {
+        Some(found) => checked_over(alloc, project, found),
+        None => Ok(Verdict::NoSignature),
+    }
+}
+
+// What the texts are found to be, by what the signature gives.
+fn checked_over(alloc: Global, project: &Project, found: FoundSignature) -> Mem<Verdict>
+    requires sizes { first_too_long project.now ≡ None }
+    requires gives { SignatureGives project.now.signature found.tree found.faults }
+    ensures { IfOk result (IsChecked project.now) }
+{
+    let file = FileTree {
+        path: Text::from_str(alloc, SIGNATURE)?,
+        decls: found.tree,
     };
-    match faults(alloc, &found.known, project.ruby.as_str())? {
-        Some(ruby) => Ok(Verdict::Checked(Faults {
-            ruby,
-            signature: found.faults,
-        })),
+    match FreshTable::new(alloc, slice::from_ref(&file)) {
+        Ok(table) => judged(alloc, project, &table, found.faults),
+        Err(fault) => too_much(fault),
+    }
+}
+
+// What the texts are found to be where there is too much to be declared.
+fn too_much(fault: LimitFault) -> Mem<Verdict>
+    ensures { IfOk result (λ verdict. Some verdict ≡ too_much fault) }
+{
+    match fault {
+        LimitFault::Limit(limit, count) => passed(limit, count),
+        LimitFault::NoMemory => Err(NoMemory),
+    }
+}
+
+// The same of one limit. Only names and methods are counted there.
+fn passed(limit: Limit, count: u64) -> Mem<Verdict>
+    ensures { IfOk result (λ verdict. Some verdict ≡ passed limit count) }
+{
+    match limit {
+        Limit::Names => Ok(Verdict::TooManyNames(count)),
+        Limit::Methods => Ok(Verdict::TooManyMethods(count)),
+        Limit::File | Limit::Files | Limit::Total => Err(NoMemory),
+    }
+}
+
+// What the texts are found to be, by what is declared.
+fn judged<M: Members>(
+    alloc: Global,
+    project: &Project,
+    members: &M,
+    signature: Seq<Diagnostic>,
+) -> Mem<Verdict>
+    requires sizes { first_too_long project.now ≡ None }
+    requires declares { Declares project.now.signature (M.all members.now) signature }
+    requires limits { IsWithinLimits (M.all members.now) }
+    ensures { IfOk result (IsChecked project.now) }
+{
+    match faults(alloc, members, project.ruby.as_str())? {
+        Some(ruby) => Ok(Verdict::Checked(Faults { ruby, signature })),
         None => Ok(Verdict::NoRuby),
     }
 }

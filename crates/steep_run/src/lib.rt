@@ -5,6 +5,7 @@
 #![tactic(auto)]
 
 mod check;
+mod distinct;
 mod faults;
 mod outcome;
 mod plan;
@@ -13,9 +14,9 @@ mod report;
 mod ruby;
 mod signature;
 mod small;
-mod table;
 mod writing;
 
 pub use check::{has_one_list_of_faults, run, run_check};
-pub use outcome::{Limit, Outcome, Part};
+pub use outcome::{Outcome, Part};
 pub use plan::CheckPlan;
+pub use sig_rules::Limit;

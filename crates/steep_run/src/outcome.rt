@@ -1,6 +1,7 @@
 ghost use Rattle.std.specs.Prelude.{◌≡◌, IfOk, Some};
-ghost use Rattle.steep_run.specs.Report.{line_of};
+ghost use Rattle.steep_run.specs.Report.{line_of, limit_name};
 
+use sig_rules::Limit;
 use src_text::{Mem, Text};
 use std::alloc::Global;
 
@@ -13,13 +14,6 @@ pub enum Part {
     Signature,
     /// Ruby texts that aren't small.
     Ruby,
-}
-
-/// What a project may have no more of.
-#[derive(Clone, Copy, Debug, PartialEq, Eq)]
-pub enum Limit {
-    /// Bytes of one file, at most 1,048,576.
-    File,
 }
 
 /// What a run answers.
@@ -83,19 +77,20 @@ fn line_alone(alloc: Global, line: &str) -> Mem<Option<Text>>
 fn limit_line(alloc: Global, limit: Limit, number: u64) -> Mem<Option<Text>>
     ensures { IfOk result (λ made. made ≡ line_of (Outcome.TooLarge limit number)) }
 {
-    let name = limit.name();
+    let name = limit_name(limit);
     let line = format!(in alloc; "steep: limit passed: {name} {number}")?;
     Ok(Some(Text::from_string(line)))
 }
 
-impl Limit {
-    ghost use Rattle.steep_run.specs.Report.{limit_name};
-
-    fn name(self) -> &'static str
-        ensures { result.now ≡ limit_name self }
-    {
-        match self {
-            Limit::File => "File",
-        }
+// How a limit is named.
+fn limit_name(limit: Limit) -> &'static str
+    ensures { result.now ≡ limit_name limit }
+{
+    match limit {
+        Limit::File => "File",
+        Limit::Files => "Files",
+        Limit::Total => "Total",
+        Limit::Names => "Names",
+        Limit::Methods => "Methods",
     }
 }

@@ -1,31 +1,73 @@
 //! Which trees of signatures are small: classes with methods that take Integers.
 
-ghost use Rattle.std.specs.Prelude.{◌≡◌, ◌&&◌, ◌||◌, not};
+ghost use Rattle.std.specs.Prelude.{◌≡◌, ◌&&◌, ◌||◌, not, IfOk};
 ghost use Rattle.std.specs.Option.{option_map};
 ghost use Rattle.std.specs.List.{list_all};
 ghost use Rattle.steep_run.specs.Small as small;
 ghost use Rattle.steep_run.specs.Words.{is_upper, is_digit, begins, is_interface_name};
 
+use crate::distinct::{has_distinct_classes, have_distinct_methods};
 use rbs_lexer::is_word;
 use rbs_tree::{Decl, Member, MethodType, Param, Side, Ty, TypeName};
-use src_text::Seq;
+use src_text::{Mem, Seq, Text};
+use std::alloc::Global;
 
-/// Whether all declarations are classes of the small form. Whether a name stands twice isn't looked at.
-pub fn are_small_classes(tree: &[Decl]) -> bool
+/// Whether a tree is small: its declarations are classes of the small form, and no name stands twice.
+pub fn is_small(alloc: Global, tree: &[Decl]) -> Mem<bool>
+    ensures { IfOk result (λ is. is ≡ small.is_small tree.now) }
+{
+    if !are_small_classes(tree) {
+        return Ok(false);
+    }
+    if !has_distinct_classes(alloc, tree)? {
+        return Ok(false);
+    }
+    have_distinct_methods(alloc, tree)
+}
+
+// Whether all declarations are classes of the small form. Whether a name stands twice isn't looked at.
+fn are_small_classes(tree: &[Decl]) -> bool
     ensures { result ≡ list_all small.is_small_class tree.now }
 {
     tree.iter().all(|decl| is_small_class(decl))
 }
 
-/// The word of a name that is one word without `::` before it.
-pub fn word_of(name: &TypeName) -> Option<&str>
+// The word of a name that is one word without `::` before it.
+fn word_of(name: &TypeName) -> Option<&str>
     ensures { option_map (λ word. word.now) result ≡ small.word_of name.now }
 {
     if name.absolute {
         return None;
     }
-    match name.path.as_slice() {
+    lone_word(name.path.as_slice())
+}
+
+/// The word that alone is a path, if it is one word.
+pub fn lone_word(path: &[Text]) -> Option<&str>
+    ensures { option_map (λ word. word.now) result ≡ small.lone_word path.now }
+{
+    match path {
         [word] => Some(word.as_str()),
+        _ => None,
+    }
+}
+
+/// The one word that names a declaration that is a class.
+pub fn class_word(decl: &Decl) -> Option<&str>
+    ensures { option_map (λ word. word.now) result ≡ small.class_word decl.now }
+{
+    match decl {
+        Decl::Class { name, .. } => word_of(name),
+        _ => None,
+    }
+}
+
+/// The name of a member that is a method.
+pub fn method_name(member: &Member) -> Option<&str>
+    ensures { option_map (λ word. word.now) result ≡ small.method_name member.now }
+{
+    match member {
+        Member::Def { name, .. } => Some(name.as_str()),
         _ => None,
     }
 }
@@ -142,8 +184,8 @@ fn is_small_overload(method: &MethodType) -> bool
         && class_of(&method.result).is_some()
 }
 
-// Whether there are no parameters but required positional ones, and no block.
-fn has_required_alone(method: &MethodType) -> bool
+/// Whether there are no parameters but required positional ones, and no block.
+pub fn has_required_alone(method: &MethodType) -> bool
     ensures { result ≡ small.has_required_alone method.now }
 {
     is_nil(&method.optional)
@@ -179,7 +221,8 @@ fn class_of(ty: &Ty) -> Option<&str>
     }
 }
 
-fn is_nil<T>(list: &Seq<T>) -> bool
+/// Whether a list has no items.
+pub fn is_nil<T>(list: &Seq<T>) -> bool
     ensures { result ≡ small.is_nil list.now }
 {
     match list.as_slice() {

@@ -1,36 +1,44 @@
-ghost use Rattle.std.specs.Prelude.{◌≡◌, ◌<◌, ◌≤◌, ◌+◌, ◌^◌, [], IfOk, IsTrue, length, codes};
+ghost use Rattle.std.specs.Prelude.{◌≡◌, ◌<◌, ◌≤◌, ◌+◌, ◌^◌, [], IfOk, OnOk, IsTrue, length, codes};
 ghost use Rattle.std.specs.List.{list_all};
 ghost use Rattle.steep_run.specs.Words.{is_ascii_word_byte};
 ghost use Rattle.std.specs.Str.{IsAscii};
-ghost use Rattle.steep_run.specs.Ruby.{ReadsRuby, fault_at, fits, lacks};
-ghost use Rattle.steep_run.specs.Reading.{IsJudged, ReadsLine};
+ghost use Rattle.steep_run.specs.Ruby.{ReadsRuby, fault_at};
+ghost use Rattle.steep_run.specs.Reading.{AreCalled, IsJudged, IsJudgedBy, ReadsLine, suits, is_private};
 
 use super::call::{FoundCall, read_call};
+use super::callable::Callable;
+use super::class::{ClassTable, asked, note_class};
 use super::line::split_line;
-use crate::table::ClassTable;
 use diagnostics::{Code, Diagnostic};
+use method_steps::NameTable;
+use sig_rules::Members;
 use src_text::{Mem, Seq, Span, Text};
 use std::alloc::Global;
 use std::str;
 
 /// The faults of a Ruby text, or none where the text isn't small.
-pub fn faults(alloc: Global, known: &ClassTable, text: &str) -> Mem<Option<Seq<Diagnostic>>>
+pub fn faults<M: Members>(alloc: Global, members: &M, text: &str) -> Mem<Option<Seq<Diagnostic>>>
     requires { length text.now ≤ 1048576 }
-    ensures { IfOk result (ReadsRuby known.now text.now) }
+    ensures { IfOk result (ReadsRuby (M.all members.now) text.now) }
 {
-    faults_among(alloc, known, text.as_bytes())
+    faults_among(alloc, members, text.as_bytes())
 }
 
-fn faults_among(alloc: Global, known: &ClassTable, bytes: &[u8]) -> Mem<Option<Seq<Diagnostic>>>
+fn faults_among<M: Members>(
+    alloc: Global,
+    members: &M,
+    bytes: &[u8],
+) -> Mem<Option<Seq<Diagnostic>>>
     requires { length bytes.now ≤ 1048576 }
-    ensures { IfOk result (ReadsRuby known.now bytes.now) }
+    ensures { IfOk result (ReadsRuby (M.all members.now) bytes.now) }
 {
+    let mut classes = NameTable::new(alloc);
     let mut faults = Seq::new(alloc);
     let mut at = 0u32;
     let mut rest = bytes;
     while !rest.is_empty() {
         let (line, more) = split_line(rest);
-        if !read_line(alloc, known, at, line, &mut faults)? {
+        if !read_line(alloc, members, &mut classes, at, line, &mut faults)? {
             return Ok(None);
         }
         at += line.len() as u32 + 1;
@@ -40,15 +48,18 @@ fn faults_among(alloc: Global, known: &ClassTable, bytes: &[u8]) -> Mem<Option<S
 }
 
 // Adds the fault of a line, if it has one, and says whether the line is small.
-fn read_line(
+fn read_line<M: Members>(
     alloc: Global,
-    known: &ClassTable,
+    members: &M,
+    classes: &mut ClassTable,
     start: u32,
     line: &[u8],
     faults: &mut Seq<Diagnostic>,
 ) -> Mem<bool>
-    requires { start + length line.now < 2 ^ 31 }
-    ensures { IfOk result (λ stands. ReadsLine known.now start line.now stands faults.old faults.new) }
+    requires small { start + length line.now < 2 ^ 31 }
+    requires called { AreCalled (M.all members.now) classes.old }
+    ensures called { OnOk result (AreCalled (M.all members.now) classes.new) }
+    ensures reads { IfOk result (λ stands. ReadsLine (M.all members.now) start line.now stands faults.old faults.new) }
 {
     if line.is_empty() {
         return Ok(true);
@@ -57,43 +68,63 @@ fn read_line(
         Some(call) => call,
         None => return Ok(false),
     };
-    match judged(alloc, known, &call)? {
+    match judged(alloc, members, classes, &call)? {
         Judgement::Misfit => return Ok(false),
-        Judgement::Declared => {}
+        Judgement::Known => {}
         Judgement::Missing(fault) => faults.push(fault)?,
     }
     Ok(true)
 }
 
-// What a signature says of a call.
+// What is said of a call.
 #[derive(Debug, Drop)]
 enum Judgement {
-    // Its class isn't known, or its method takes another number of arguments.
+    // Its class makes no object that can be judged, or its method wants other arguments.
     Misfit,
-    Declared,
+    Known,
     Missing(Diagnostic),
 }
 
-fn judged(alloc: Global, known: &ClassTable, call: &FoundCall<'_>) -> Mem<Judgement>
+// What is said of a call over what is declared.
+fn judged<M: Members>(
+    alloc: Global,
+    members: &M,
+    classes: &mut ClassTable,
+    call: &FoundCall<'_>,
+) -> Mem<Judgement>
     requires small { call.now.start + (length call.now.class.now + (5 + length call.now.method.now)) < 2 ^ 32 }
     requires class { IsAscii call.now.class.now }
     requires method { IsAscii call.now.method.now }
-    ensures { IfOk result (IsJudged known.now call.now.start call.now.class.now call.now.method.now call.now.numbers) }
+    requires called { AreCalled (M.all members.now) classes.old }
+    ensures called { OnOk result (AreCalled (M.all members.now) classes.new) }
+    ensures judged { IfOk result (IsJudged (M.all members.now) call.now.start call.now.class.now call.now.method.now call.now.numbers) }
 {
     let class = named(alloc, call.class)?;
-    let methods = match known.get(&class) {
-        None => return Ok(Judgement::Misfit),
-        Some(methods) => methods,
-    };
     let method = named(alloc, call.method)?;
-    match methods.get(&method) {
-        Some(wanted) => {
-            if *wanted != call.numbers {
-                return Ok(Judgement::Misfit);
+    note_class(alloc, members, classes, &class)?;
+    match classes.get(&class) {
+        None => Ok(Judgement::Misfit),
+        Some(methods) => judged_by(alloc, asked(methods, &method), call),
+    }
+}
+
+// What is said of a call by what calls of its method are judged by.
+fn judged_by(alloc: Global, callable: Callable, call: &FoundCall<'_>) -> Mem<Judgement>
+    requires small { call.now.start + (length call.now.class.now + (5 + length call.now.method.now)) < 2 ^ 32 }
+    requires class { IsAscii call.now.class.now }
+    requires method { IsAscii call.now.method.now }
+    ensures { IfOk result (IsJudgedBy (suits call.now.numbers callable) (is_private callable) call.now.start call.now.class.now call.now.method.now) }
+{
+    match callable {
+        Callable::Private => Ok(Judgement::Missing(missing(alloc, call)?)),
+        Callable::Plain(wanted) => {
+            if wanted == call.numbers {
+                Ok(Judgement::Known)
+            } else {
+                Ok(Judgement::Misfit)
             }
-            Ok(Judgement::Declared)
         }
-        None => Ok(Judgement::Missing(missing(alloc, call)?)),
+        Callable::Other => Ok(Judgement::Misfit),
     }
 }
 

@@ -1,20 +1,12 @@
-use Rattle.std.proofs.Common.{◌∙◌}
-use Rattle.steep_run.proofs.RubyLemmas.{no_class, known_method, missing_method, same_number, other_number}
+use Rattle.steep_run.proofs.ClassLemmas.{misfit, judged_call}
 use Rattle.steep_run.proofs.ruby.text.judged.Goals as goal
 
-pub returns-in-None : goal.returns-in-None
-returns-in-None c = no_class _ _ _ _ _ c.in_ok-class.ensures c.in-None.ensures
+pub returns-in-None-clause-judged : goal.returns-in-None-clause-judged
+returns-in-None-clause-judged g c =
+    misfit (g.M.Names.all c.args.members.now) _ c.args.call.now.class.now c.args.call.now.method.now c.args.call.now.numbers c.args.call.now.start _ c.in_ok-class.ensures
+    c.in_ok-note_class.ensures.noted c.in-None.ensures
 
-pub returns-then-wanted-call : goal.returns-then-wanted-call
-returns-then-wanted-call c =
-    (known_method _ _ _ _ _ _ _ c.args.call.now.numbers c.in_ok-class.ensures c.in_ok-method.ensures c.in-Some.ensures c.in-Some-get.ensures).0 ∙ other_number _ _ c.if-wanted-call.true
-
-pub returns-in-Some-get : goal.returns-in-Some-get
-returns-in-Some-get c =
-    let both = known_method _ _ _ _ _ _ _ c.args.call.now.numbers c.in_ok-class.ensures c.in_ok-method.ensures c.in-Some.ensures c.in-Some-get.ensures in
-    (both.0 ∙ same_number _ _ c.if-wanted-call.false, both.1)
-
-pub returns : goal.returns
-returns c =
-    let both = missing_method _ _ _ _ _ _ c.args.call.now.numbers c.in_ok-class.ensures c.in_ok-method.ensures c.in-Some.ensures c.in-None-get.ensures in
-    (both.0, both.1, c.in_ok-missing-in-None-get.ensures)
+pub returns-clause-judged : goal.returns-clause-judged
+returns-clause-judged g c =
+    judged_call c.judged_by.result (g.M.Names.all c.args.members.now) _ c.args.call.now.class.now _ c.args.call.now.method.now c.args.call.now.numbers c.args.call.now.start _ _ _
+    c.in_ok-class.ensures c.in_ok-method.ensures c.in_ok-note_class.ensures.noted c.in-Some.ensures c.asked.ensures c.judged_by.ensures
