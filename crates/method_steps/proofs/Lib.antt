@@ -1,4 +1,5 @@
 pub mod AimLemmas
+pub mod AliveLemmas
 pub mod CircleLemmas
 pub mod GatheringLemmas
 pub mod GroupLemmas

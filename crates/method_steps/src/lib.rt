@@ -15,4 +15,5 @@ mod step_methods;
 
 pub use making::Making;
 pub use name_table::NameTable;
+pub use site::copy_method;
 pub use step_methods::methods_from;

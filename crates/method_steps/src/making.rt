@@ -2,7 +2,7 @@ ghost use Rattle.std.specs.Prelude.{◌≡◌, ℕ, List, codes, false, None, If
 ghost use Rattle.sig_rules.specs.declared.line.Step.{Step};
 ghost use Rattle.sig_rules.specs.Methods.{Made, first_made, is_some, same_word};
 
-use sig_rules::{Method, Step};
+use sig_rules::{Method, Shared, Step};
 use src_text::Mem;
 use std::alloc::Global;
 
@@ -12,11 +12,11 @@ pub trait Making {
     ghost made: { Self → Made };
 
     /// Whether one of these steps has a `new` that is made.
-    fn makes_new(&self, steps: &[Step]) -> bool
+    fn makes_new(&self, steps: &[Shared<Step>]) -> bool
         ensures { result ≡ is_some (first_made (made self.now) steps.now (codes "new")) };
 
     /// The `new` that the first of these steps has which has one that is made.
-    fn first_new(&self, alloc: Global, steps: &[Step]) -> Mem<Option<Method>>
+    fn first_new(&self, alloc: Global, steps: &[Shared<Step>]) -> Mem<Option<Method>>
         ensures { IfOk result (λ new. new ≡ first_made (made self.now) steps.now (codes "new")) };
 
     /// Nothing but `new` is made.

@@ -7,7 +7,7 @@ use crate::living::Elsewhere;
 use crate::making::Making;
 use crate::name_table::NameTable;
 use rbs_tree::{MethodType, copy_methods, copy_name};
-use sig_rules::{Method, Step};
+use sig_rules::{Method, Shared, Step};
 use src_text::{Mem, Seq, Text};
 use std::alloc::Global;
 
@@ -17,16 +17,16 @@ pub(crate) struct Site<'a, M> {
     pub(crate) making: &'a M,
     pub(crate) step: &'a Step,
     /// The steps behind it.
-    pub(crate) rest: &'a [Step],
+    pub(crate) rest: &'a [Shared<Step>],
     /// The steps from it on.
-    pub(crate) steps: &'a [Step],
+    pub(crate) steps: &'a [Shared<Step>],
 }
 
 /// What is found elsewhere than among the declarations of a step.
 #[derive(Clone, Copy)]
 pub(crate) struct Around<'a, M> {
     pub(crate) making: &'a M,
-    pub(crate) steps: &'a [Step],
+    pub(crate) steps: &'a [Shared<Step>],
     pub(crate) behind: &'a NameTable<Method>,
 }
 
@@ -39,7 +39,7 @@ impl<'a, M: Making> Elsewhere for Around<'a, M> {
 }
 
 // Whether some of these steps has a method of this name that is made.
-fn makes<M: Making>(making: &M, steps: &[Step], name: &Text) -> bool
+fn makes<M: Making>(making: &M, steps: &[Shared<Step>], name: &Text) -> bool
     ensures { result ≡ is_some (first_made (M.made making.now) steps.now name.now) }
 {
     making.only_new();
@@ -57,14 +57,14 @@ fn is_new(name: &Text) -> bool
 pub(crate) fn copy_found<M: Making>(
     alloc: Global,
     making: &M,
-    steps: &[Step],
+    steps: &[Shared<Step>],
     methods: &NameTable<Method>,
     name: &Text,
 ) -> Mem<Option<Method>>
     ensures { IfOk result (λ found. found ≡ elsewhere (M.made making.now) steps.now (by_name methods.now) name.now) }
 {
     match methods.get(name) {
-        Some(method) => Ok(Some(copy_of(alloc, method)?)),
+        Some(method) => Ok(Some(copy_method(alloc, method)?)),
         None => made_of(alloc, making, steps, name),
     }
 }
@@ -73,7 +73,7 @@ pub(crate) fn copy_found<M: Making>(
 pub(crate) fn take_overloads<M: Making>(
     alloc: Global,
     making: &M,
-    steps: &[Step],
+    steps: &[Shared<Step>],
     methods: &mut NameTable<Method>,
     name: &Text,
 ) -> Mem<Seq<MethodType>>
@@ -97,7 +97,12 @@ fn overloads_of(alloc: Global, method: Option<Method>) -> Seq<MethodType>
 }
 
 // The first method of this name that these steps make.
-fn made_of<M: Making>(alloc: Global, making: &M, steps: &[Step], name: &Text) -> Mem<Option<Method>>
+fn made_of<M: Making>(
+    alloc: Global,
+    making: &M,
+    steps: &[Shared<Step>],
+    name: &Text,
+) -> Mem<Option<Method>>
     ensures { IfOk result (λ made. made ≡ first_made (M.made making.now) steps.now name.now) }
 {
     making.only_new();
@@ -108,8 +113,8 @@ fn made_of<M: Making>(alloc: Global, making: &M, steps: &[Step], name: &Text) ->
     }
 }
 
-// A copy of a method.
-fn copy_of(alloc: Global, method: &Method) -> Mem<Method>
+/// A copy of a method.
+pub fn copy_method(alloc: Global, method: &Method) -> Mem<Method>
     ensures { IfOk result (λ copy. copy ≡ method.now) }
 {
     let overloads = copy_methods(alloc, method.overloads.as_slice())?;

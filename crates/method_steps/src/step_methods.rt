@@ -14,7 +14,7 @@ use crate::living::living;
 use crate::making::Making;
 use crate::name_table::NameTable;
 use crate::site::{Around, Site, copy_found, take_overloads};
-use sig_rules::{GivenMethod, Method, Step, What};
+use sig_rules::{GivenMethod, Method, Shared, Step, What};
 use src_text::{Mem, Seq, Text};
 use std::alloc::Global;
 
@@ -22,7 +22,7 @@ use std::alloc::Global;
 pub fn methods_from<M: Making>(
     alloc: Global,
     making: &M,
-    steps: &[Step],
+    steps: &[Shared<Step>],
     behind: NameTable<Method>,
     given: Seq<GivenMethod>,
 ) -> Mem<NameTable<Method>>
@@ -39,7 +39,7 @@ pub fn methods_from<M: Making>(
             let groups = grouped(alloc, living(alloc, &around, given)?)?;
             let site = Site {
                 making,
-                step,
+                step: step.get(),
                 rest,
                 steps,
             };

@@ -1,3 +1,4 @@
+use crate::Shared;
 use rbs_tree::{Ty, TypeName};
 use src_text::Seq;
 
@@ -31,7 +32,7 @@ pub struct Step {
 /// Where methods are looked for, in this order.
 #[derive(Debug, Drop)]
 pub struct Line {
-    pub steps: Seq<Step>,
+    pub steps: Seq<Shared<Step>>,
     /// Whether a name was left out since it stood on the path already.
     pub cut: bool,
 }

@@ -1,4 +1,4 @@
-use crate::Kind;
+use crate::{Kind, Shared};
 use rbs_tree::{MethodType, Ty, TypeName};
 use src_text::{Seq, Text};
 
@@ -23,8 +23,8 @@ pub struct Method {
 /// The methods and the variables of one side of a class or a module, or the methods of an interface, by name.
 #[derive(Debug, Drop)]
 pub struct Definition {
-    pub methods: Seq<(Text, Method)>,
-    pub variables: Seq<(Text, Ty)>,
+    pub methods: Seq<Shared<(Text, Method)>>,
+    pub variables: Seq<Shared<(Text, Ty)>>,
 }
 
 /// Both sides of a class or a module.
