@@ -1,5 +1,5 @@
 -- A walk ends.
-use Rattle.std.proofs.Common.{◌≡◌, ◌∙◌, ℕ, zero, suc, ◌+◌, ◌-◌, ◌≤◌, ◌<◌, Bool, true, false, not, nat_lt, if◌then◌else◌, List, [], ◌∷◌, ◌++◌, length, map, refl, sym, ap, subst, arith}
+use Rattle.std.proofs.Common.{◌≡◌, ◌∙◌, inl, inr, ℕ, zero, suc, ◌+◌, ◌-◌, ◌≤◌, ◌<◌, Bool, true, false, not, nat_lt, if◌then◌else◌, List, [], ◌∷◌, ◌++◌, length, map, refl, sym, ap, subst, arith}
 use Rattle.sig_rules.specs.declared.files.Declared.{Declared}
 use Rattle.sig_rules.specs.declared.line.Applied.{Applied}
 use Rattle.sig_rules.specs.declared.line.Line.{Line}
@@ -12,7 +12,7 @@ use Rattle.ancestors.specs.declared.tasks.Task.TheVariants as task
 use Rattle.ancestors.specs.declared.trail.Visited.{Visited}
 use Rattle.ancestors.specs.declared.walk.Walk.{Walk}
 use Rattle.ancestors.specs.Pieces.{adds, kind_of, pieces}
-use Rattle.ancestors.specs.Walks.{after_part, after_task, may_enter, trail_of}
+use Rattle.ancestors.specs.Walks.{Takes, TakesPart, after_part, after_task, may_enter, trail_of}
 use Rattle.ancestors.proofs.LineLemmas.{further, turns_more, and_left, and_right}
 use Rattle.ancestors.proofs.TrailLemmas.{back, trail_back}
 
@@ -73,9 +73,22 @@ task_fewer all w task.Leave = rw (trail_back w.trail) (omega arith)
 task_fewer all w (task.Add (piece.One step)) = omega arith
 task_fewer all w (task.Add (piece.Of part a)) = part_fewer all w part a _ refl
 
+part_taken : (all : List Declared) (w : Walk) (part : Part) (a : Applied) (after : Walk) → TakesPart all w part a after → tasks_left all (trail_of after.trail) after.tasks < tasks_left all (trail_of w.trail) (task.Add (piece.Of part a) ∷ w.tasks)
+part_taken all w part a after (inl is) =
+    subst (λ (v : Walk). tasks_left all (trail_of v.trail) v.tasks < tasks_left all (trail_of w.trail) (task.Add (piece.Of part a) ∷ w.tasks)) (sym is) (part_fewer all w part a _ refl)
+part_taken all w part a after (inr is) =
+    let some = some_tasks (turns all - length (trail_of w.trail)) all (trail_of w.trail) (piece.Of part a) in
+    let fewer : tasks_left all (trail_of w.trail) w.tasks < tasks_left all (trail_of w.trail) (task.Add (piece.Of part a) ∷ w.tasks) = omega (arith, some) in
+    subst (λ (v : Walk). tasks_left all (trail_of v.trail) v.tasks < tasks_left all (trail_of w.trail) (task.Add (piece.Of part a) ∷ w.tasks)) (sym is) fewer
+
+task_taken : (all : List Declared) (w : Walk) (t : Task) (after : Walk) → Takes all w t after → tasks_left all (trail_of after.trail) after.tasks < tasks_left all (trail_of w.trail) (t ∷ w.tasks)
+task_taken all w task.Leave after is = subst (λ (v : Walk). tasks_left all (trail_of v.trail) v.tasks < tasks_left all (trail_of w.trail) (task.Leave ∷ w.tasks)) (sym is) (task_fewer all w task.Leave)
+task_taken all w (task.Add (piece.One step)) after is =
+    subst (λ (v : Walk). tasks_left all (trail_of v.trail) v.tasks < tasks_left all (trail_of w.trail) (task.Add (piece.One step) ∷ w.tasks)) (sym is) (task_fewer all w (task.Add (piece.One step)))
+task_taken all w (task.Add (piece.Of part a)) after is = part_taken all w part a after is
+
 -- fewer tasks are left when the task is done that was on the top
-pub walk_ends : (all : List Declared) (tasks rest : List Task) (trail : List Visited) (line : Line) (t : Task) (after : Walk) → tasks ≡ t ∷ rest → after ≡ after_task all (record { tasks = rest; trail = trail; line = line }) t → tasks_left all (trail_of after.trail) after.tasks < tasks_left all (trail_of trail) tasks
+pub walk_ends : (all : List Declared) (tasks rest : List Task) (trail : List Visited) (line : Line) (t : Task) (after : Walk) → tasks ≡ t ∷ rest → Takes all (record { tasks = rest; trail = trail; line = line }) t after → tasks_left all (trail_of after.trail) after.tasks < tasks_left all (trail_of trail) tasks
 walk_ends all tasks rest trail line t after top is =
     let w : Walk = record { tasks = rest; trail = trail; line = line } in
-    subst (λ (ts : List Task). tasks_left all (trail_of after.trail) after.tasks < tasks_left all (trail_of trail) ts) (sym top)
-    (subst (λ (v : Walk). tasks_left all (trail_of v.trail) v.tasks < tasks_left all (trail_of trail) (t ∷ rest)) (sym is) (task_fewer all w t))
+    subst (λ (ts : List Task). tasks_left all (trail_of after.trail) after.tasks < tasks_left all (trail_of trail) ts) (sym top) (task_taken all w t after is)

@@ -1,4 +1,5 @@
 pub mod EndLemmas
+pub mod KnownLemmas
 pub mod LineLemmas
 pub mod PieceLemmas
 pub mod ReferenceLemmas

@@ -1,5 +1,5 @@
 -- What is referred to, one reference more.
-use Rattle.std.proofs.Common.{◌≡◌, ◌≢◌, ◌∙◌, ℕ, ◌+◌, ◌<◌, ◌≤◌, Bool, true, false, if◌then◌else◌, List, [], ◌∷◌, ◌++◌, length, get_or, take, map, Option, Some, None, refl, sym, ap, append_assoc, append-nil}
+use Rattle.std.proofs.Common.{◌≡◌, ◌≢◌, ◌∙◌, ℕ, ◌+◌, ◌<◌, ◌≤◌, Bool, true, false, if◌then◌else◌, List, [], ◌∷◌, ◌++◌, length, get_or, take, map, Option, Some, None, IfSome, refl, sym, ap, subst, append_assoc, append-nil, true≢false}
 use Rattle.std.specs.List.{flat_map}
 use Rattle.std.specs.Option.{option_map}
 use Rattle.std.proofs.lemmas.List.{map-append, take_all, take_more}
@@ -13,14 +13,15 @@ use Rattle.sig_rules.specs.declared.sort.Sort.{Sort}
 use Rattle.sig_rules.specs.declared.line.Applied.{Applied}
 use Rattle.sig_rules.specs.Declarations.{Path, entries, full_name, somes}
 use Rattle.sig_rules.specs.Names.{resolve}
-use Rattle.sig_rules.specs.Types.{sort, fitted_to, meant}
-use Rattle.sig_rules.specs.Lines.{applied, members}
+use Rattle.sig_rules.specs.Types.{sort, fitted_to, meant, param_names}
+use Rattle.sig_rules.specs.declared.sort.Sort.TheVariants as sorts
+use Rattle.sig_rules.specs.Lines.{applied, is_class, members}
 use Rattle.sig_rules.proofs.NameLemmas.{somes-append}
 use Rattle.ancestors.specs.declared.applied.Parameters.{Parameters}
 use Rattle.ancestors.specs.declared.applied.Scope.{Scope}
 use Rattle.ancestors.specs.declared.references.Role.{Role}
 use Rattle.ancestors.specs.declared.references.Role.TheVariants as role
-use Rattle.ancestors.specs.References.{applied_refs, chosen, fits, of_declaration, parameters_of, referred, refs_in, refs_of}
+use Rattle.ancestors.specs.References.{applied_refs, chosen, fits, of_declaration, parameters_of, referred, refs_in, refs_of, scope_of, with_both}
 
 pub applied_refs-append : (all : List Declared) (r : Role) (scope : Scope) (xs ys : List Ref) → applied_refs all r scope (xs ++ ys) ≡ applied_refs all r scope xs ++ applied_refs all r scope ys
 applied_refs-append all r scope xs ys =
@@ -91,3 +92,39 @@ pub referred_whole : (all : List Declared) (r : Role) (a : Applied) (first : Par
 referred_whole all r a first ds i found params those past is =
     is ∙ ap (λ (xs : List Declared). flat_map (of_declaration all r a first) xs) (take_all i ds past ∙ those)
     ∙ ap (λ (p : Parameters). flat_map (of_declaration all r a p) (entries all a.name.path)) params
+
+both_empty : {A : Type 0} (xs ys : List A) → xs ++ ys ≡ [] → (xs ≡ []) × (ys ≡ [])
+both_empty [] ys is = (refl, is)
+both_empty (x ∷ xs) ys is = cc
+
+none_of_each : (all : List Declared) (r : Role) (a : Applied) (first : Parameters) (ds : List Declared) → flat_map (λ (d : Declared). refs_of r d.decl) ds ≡ [] → flat_map (of_declaration all r a first) ds ≡ []
+none_of_each all r a first [] none = refl
+none_of_each all r a first (d ∷ ds) none =
+    let parts = both_empty (refs_of r d.decl) (flat_map (λ (e : Declared). refs_of r e.decl) ds) none in
+    let here : of_declaration all r a first d ≡ [] = ap (λ (refs : List Ref). map (with_both (param_names d.decl) first a.args) (applied_refs all r (scope_of r a.name.path d) refs)) parts.0 in
+    ap (λ (xs : List Applied). xs ++ flat_map (of_declaration all r a first) ds) here ∙ none_of_each all r a first ds parts.1
+
+-- declarations without references refer to nothing
+pub none_referred : (all : List Declared) (r : Role) (a : Applied) (ds : List Declared) → ds ≡ entries all a.name.path → flat_map (λ (d : Declared). refs_of r d.decl) ds ≡ [] → referred all r a ≡ []
+none_referred all r a ds those none =
+    let first = parameters_of all a.name.path in
+    ap (λ (xs : List Declared). flat_map (of_declaration all r a first) xs) (sym those) ∙ none_of_each all r a first ds none
+
+class_only : (s : Sort) → is_class s ≡ true → s ≡ sorts.Class
+class_only sorts.Class is = refl
+class_only sorts.Module is = absurd (true≢false (sym is))
+class_only sorts.Interface is = absurd (true≢false (sym is))
+class_only sorts.Alias is = absurd (true≢false (sym is))
+class_only sorts.Other is = absurd (true≢false (sym is))
+
+-- what may stand as a superclass is a class
+pub chosen_class : (all : List Declared) (context : List TypeName) (name : TypeName) (o : Option TypeName) → o ≡ option_map full_name (chosen all (fits role.Superclass) context name) → IfSome o (λ (found : TypeName). sort all found.path ≡ sorts.Class)
+chosen_class all context name o is = subst (λ (x : Option TypeName). IfSome x (λ (found : TypeName). sort all found.path ≡ sorts.Class)) (sym is) (by_resolved (resolve all context name) refl)
+  where
+    of_found : (b : Bool) (path : Path) → is_class (sort all path) ≡ b → IfSome (option_map full_name (if b then Some path else None)) (λ (found : TypeName). sort all found.path ≡ sorts.Class)
+    of_found true path class = class_only (sort all path) class
+    of_found false path class = tt
+
+    by_resolved : (r : Option Path) → resolve all context name ≡ r → IfSome (option_map full_name (chosen all (fits role.Superclass) context name)) (λ (found : TypeName). sort all found.path ≡ sorts.Class)
+    by_resolved None none = rw none tt
+    by_resolved (Some path) some = rw some (of_found (is_class (sort all path)) path refl)

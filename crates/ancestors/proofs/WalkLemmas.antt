@@ -1,5 +1,5 @@
 -- A walk keeps its line.
-use Rattle.std.proofs.Common.{◌≡◌, ◌∙◌, suc, ◌-◌, Bool, true, false, ◌||◌, nat_lt, List, [], ◌∷◌, ◌++◌, length, map, refl, sym, ap, arith, append-nil}
+use Rattle.std.proofs.Common.{◌≡◌, ◌∙◌, inl, inr, suc, ◌-◌, Bool, true, false, ◌||◌, nat_lt, List, [], ◌∷◌, ◌++◌, length, map, refl, sym, ap, arith, append-nil}
 use Rattle.sig_rules.specs.declared.files.Declared.{Declared}
 use Rattle.sig_rules.specs.declared.line.Applied.{Applied}
 use Rattle.sig_rules.specs.declared.line.Line.{Line}
@@ -12,7 +12,7 @@ use Rattle.ancestors.specs.declared.tasks.Task.TheVariants as task
 use Rattle.ancestors.specs.declared.trail.Visited.{Visited}
 use Rattle.ancestors.specs.declared.walk.Walk.{Walk}
 use Rattle.ancestors.specs.Pieces.{adds, kind_of, pieces}
-use Rattle.ancestors.specs.Walks.{after_part, after_task, line_of, may_enter, piece_line, trail_of}
+use Rattle.ancestors.specs.Walks.{Takes, TakesPart, after_part, after_task, line_of, may_enter, piece_line, trail_of}
 use Rattle.ancestors.proofs.LineLemmas.{or_false, followed_by-assoc, followed_by-none, further, out_by, in_by, turns_more, on_trail, and_left, and_right}
 use Rattle.ancestors.proofs.TrailLemmas.{back, trail_back}
 
@@ -66,11 +66,21 @@ task_keeps all w (task.Add (piece.One step)) =
     ∙ followed_by-assoc w.line (record { steps = step ∷ []; cut = false }) rest
 task_keeps all w (task.Add (piece.Of part a)) = part_keeps all w part a _ refl
 
+part_taken : (all : List Declared) (w : Walk) (part : Part) (a : Applied) (after : Walk) → TakesPart all w part a after → whole all after ≡ followed_by w.line (rest_of all (trail_of w.trail) (task.Add (piece.Of part a) ∷ w.tasks))
+part_taken all w part a after (inl is) = ap (whole all) is ∙ part_keeps all w part a _ refl
+part_taken all w part a after (inr is) =
+    let l = piece_line (turns all - length (trail_of w.trail)) all (trail_of w.trail) (piece.Of part a) in
+    ap (whole all) is ∙ followed_by-assoc w.line l (rest_of all (trail_of w.trail) w.tasks)
+
+task_taken : (all : List Declared) (w : Walk) (t : Task) (after : Walk) → Takes all w t after → whole all after ≡ followed_by w.line (rest_of all (trail_of w.trail) (t ∷ w.tasks))
+task_taken all w task.Leave after is = ap (whole all) is ∙ task_keeps all w task.Leave
+task_taken all w (task.Add (piece.One step)) after is = ap (whole all) is ∙ task_keeps all w (task.Add (piece.One step))
+task_taken all w (task.Add (piece.Of part a)) after is = part_taken all w part a after is
+
 -- a walk keeps its line when the task is done that was on the top
-pub walk_keeps : (all : List Declared) (tasks rest : List Task) (trail : List Visited) (line : Line) (t : Task) (after : Walk) (goal : Line) → tasks ≡ t ∷ rest → after ≡ after_task all (record { tasks = rest; trail = trail; line = line }) t → followed_by line (rest_of all (trail_of trail) tasks) ≡ goal → whole all after ≡ goal
+pub walk_keeps : (all : List Declared) (tasks rest : List Task) (trail : List Visited) (line : Line) (t : Task) (after : Walk) (goal : Line) → tasks ≡ t ∷ rest → Takes all (record { tasks = rest; trail = trail; line = line }) t after → followed_by line (rest_of all (trail_of trail) tasks) ≡ goal → whole all after ≡ goal
 walk_keeps all tasks rest trail line t after goal top is before =
-    ap (whole all) is ∙ task_keeps all (record { tasks = rest; trail = trail; line = line }) t
-    ∙ ap (λ (ts : List Task). followed_by line (rest_of all (trail_of trail) ts)) (sym top) ∙ before
+    task_taken all (record { tasks = rest; trail = trail; line = line }) t after is ∙ ap (λ (ts : List Task). followed_by line (rest_of all (trail_of trail) ts)) (sym top) ∙ before
 
 -- what the tasks add that a walk begins with
 pub begins : (all : List Declared) (ps : List Piece) → rest_of all [] (adds ps) ≡ line_of all ps

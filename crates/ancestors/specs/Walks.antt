@@ -1,12 +1,12 @@
 -- How a line is walked, task by task.
-use Rattle.std.specs.Prelude.{ℕ, ◌&&◌, Bool, true, false, not, nat_lt, if◌then◌else◌, List, [], ◌∷◌, ◌++◌, length, map}
+use Rattle.std.specs.Prelude.{◌≡◌, ℕ, ◌-◌, ◌&&◌, ◌⊎◌, Bool, true, false, not, nat_lt, if◌then◌else◌, List, [], ◌∷◌, ◌++◌, length, map}
 use Rattle.sig_rules.specs.declared.files.Declared.{Declared}
 use Rattle.sig_rules.specs.declared.line.Kind.{Kind}
 use Rattle.sig_rules.specs.declared.line.Applied.{Applied}
 use Rattle.sig_rules.specs.declared.line.Step.{Step}
 use Rattle.sig_rules.specs.declared.line.Line.{Line}
 use Rattle.sig_rules.specs.Declarations.{Path, same_path}
-use Rattle.sig_rules.specs.Lines.{Trail, brought, in_a_row, instances, is_on, same_kind, singletons, turns}
+use Rattle.sig_rules.specs.Lines.{Trail, brought, followed_by, in_a_row, instances, is_on, same_kind, singletons, turns}
 use Rattle.ancestors.specs.declared.tasks.Part.{Part}
 use Rattle.ancestors.specs.declared.tasks.Part.TheVariants as part
 use Rattle.ancestors.specs.declared.tasks.Piece.{Piece}
@@ -67,3 +67,18 @@ piece_line n all trail (piece.Of part.Singletons a) = singletons n all trail a
 -- the line of pieces, one behind the other
 abbrev pub line_of : List Declared → List Piece → Line
 line_of all ps = in_a_row (map (piece_line (turns all) all []) ps)
+
+-- ---- a task of which the line may be known
+
+-- a line is added
+abbrev pub with_line : Walk → Line → Walk
+with_line w l = record { tasks = w.tasks; trail = w.trail; line = followed_by w.line l }
+
+-- a part of a name is done: its pieces are to be added, or its line is added whole
+abbrev pub TakesPart : List Declared → Walk → Part → Applied → Walk → Type 0
+TakesPart all w part a after = (after ≡ after_part all w part a) ⊎ (after ≡ with_line w (piece_line (turns all - length (trail_of w.trail)) all (trail_of w.trail) (piece.Of part a)))
+
+-- a task is done
+abbrev pub Takes : List Declared → Walk → Task → Walk → Type 0
+Takes all w (task.Add (piece.Of part a)) after = TakesPart all w part a after
+Takes all w t after = after ≡ after_task all w t

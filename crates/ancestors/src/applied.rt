@@ -7,7 +7,7 @@ ghost use Rattle.sig_rules.specs.Types.{meant};
 ghost use Rattle.sig_rules.specs.Lines.{itself, plain, with_args};
 ghost use Rattle.ancestors.specs.References.{applied_refs, around, chosen, fits, of_declaration, parameters_of, refs_in, refs_of, referred, scope_of, with_both};
 
-use crate::references::{Role, fits, refs_in, self_types_of, superclass_of};
+use crate::references::{Role, any_refers, fits, refs_in, self_types_of, superclass_of};
 use rbs_tree::{Decl, Member, Ref, Ty, TypeName, copy_name};
 use sig_rules::{Applied, Declared, Names, copy_names, joined_name};
 use src_text::{Mem, Seq, Text};
@@ -65,8 +65,25 @@ pub(crate) fn plain(alloc: Global, word: &str) -> Mem<Applied>
     Ok(Applied { name, args })
 }
 
-/// What a name's declarations refer to in a role, in order.
+/// What a name's declarations refer to in a role, in order. Nothing is copied where there is nothing.
+#[tactic(auto, using(crate::proofs::ReferenceLemmas::none_referred))]
 pub(crate) fn referred<N: Names>(
+    alloc: Global,
+    names: &N,
+    role: Role,
+    applied: &Applied,
+) -> Mem<Seq<Applied>>
+    ensures { IfOk result (λ all. all ≡ referred (N.all names.now) role applied.now) }
+{
+    if any_refers(role, names.entries(&applied.name)) {
+        all_referred(alloc, names, role, applied)
+    } else {
+        Ok(Seq::new(alloc))
+    }
+}
+
+// What a name's declarations refer to in a role, in order.
+fn all_referred<N: Names>(
     alloc: Global,
     names: &N,
     role: Role,
@@ -214,7 +231,7 @@ fn add_ref<N: Names>(
 ) -> Mem<()>
     ensures { OnOk result (all.new ≡ all.old ++ applied_refs (N.all names.now) role scope.now (target.now ∷ [])) }
 {
-    match chosen(names, role, scope, &target.name) {
+    match chosen(names, role, scope.context.as_slice(), &target.name) {
         None => Ok(()),
         Some(name) => {
             let args = all_meant(alloc, names, scope, target.args.as_slice())?;
@@ -225,16 +242,16 @@ fn add_ref<N: Names>(
     }
 }
 
-// The full name that a name stands for, if it may stand in a role.
-fn chosen<'a, N: Names>(
+/// The full name that a name stands for among enclosing names, if it may stand in a role.
+pub(crate) fn chosen<'a, N: Names>(
     names: &'a N,
     role: Role,
-    scope: &Scope,
+    context: &[TypeName],
     name: &TypeName,
 ) -> Option<&'a TypeName>
-    ensures { option_copied result ≡ option_map full_name (chosen (N.all names.now) (fits role) scope.now.context name.now) }
+    ensures { option_copied result ≡ option_map full_name (chosen (N.all names.now) (fits role) context.now name.now) }
 {
-    let found = names.resolve(scope.context.as_slice(), name)?;
+    let found = names.resolve(context, name)?;
     if fits(role, sort(names, found)) {
         Some(found)
     } else {

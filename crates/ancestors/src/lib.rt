@@ -6,11 +6,16 @@
 
 mod applied;
 mod behind;
+mod knowing;
+mod known_part;
 mod lists;
 mod references;
 mod stack;
+mod superclass;
 mod tasks;
 mod trail;
 mod walk;
 
-pub use lists::{instance_list, singleton_list};
+pub use knowing::Known;
+pub use lists::{instance_list, instance_list_knowing, singleton_list, singleton_list_knowing};
+pub use superclass::superclass_name;

@@ -1,10 +1,13 @@
-ghost use Rattle.std.specs.Prelude.{◌≡◌};
+ghost use Rattle.std.specs.Prelude.{◌≡◌, [], false};
+ghost use Rattle.std.specs.List.{flat_map};
+ghost use Rattle.sig_rules.specs.declared.files.Declared.{Declared};
 ghost use Rattle.sig_rules.specs.Lines.{is_class, is_mixin, superclass_of, self_types_of, include_of, prepend_of, extend_of};
-ghost use Rattle.ancestors.specs.References.{fits, refs_in};
+ghost use Rattle.ancestors.specs.References.{fits, refs_in, refs_of};
 
 use rbs_tree::{Decl, Member, Ref};
-use sig_rules::Sort;
+use sig_rules::{Declared, Sort};
 use std::slice;
+use type_meaning::members;
 
 /// As what a declaration refers to a class, a module or an interface.
 #[derive(Clone, Copy, Debug, PartialEq, Eq)]
@@ -43,6 +46,55 @@ fn is_mixin(sort: Sort) -> bool
         Sort::Module => true,
         Sort::Interface => true,
         _ => false,
+    }
+}
+
+/// Whether some of these declarations refer to something in a role.
+pub(crate) fn any_refers(role: Role, entries: &[Declared]) -> bool
+    ensures { result ≡ false → flat_map (λ (d : Declared). refs_of role d.decl) entries.now ≡ [] }
+{
+    let mut rest = entries;
+    while let [declared, more @ ..] = rest {
+        if refers(role, &declared.decl) {
+            return true;
+        }
+        rest = more;
+    }
+    false
+}
+
+// Whether a declaration refers to something in a role.
+#[tactic(auto, using(crate::proofs::ReferenceLemmas::refs_of_members))]
+fn refers(role: Role, decl: &Decl) -> bool
+    ensures { result ≡ false → refs_of role decl.now ≡ [] }
+{
+    match role {
+        Role::Superclass => is_some_ref(superclass_of(decl)),
+        Role::SelfType => is_some_ref(self_types_of(decl)),
+        _ => members_refer(role, members(decl)),
+    }
+}
+
+// Whether some of these members refer to something in a role.
+fn members_refer(role: Role, members: &[Member]) -> bool
+    ensures { result ≡ false → flat_map (refs_in role) members.now ≡ [] }
+{
+    let mut rest = members;
+    while let [member, more @ ..] = rest {
+        if is_some_ref(refs_in(role, member)) {
+            return true;
+        }
+        rest = more;
+    }
+    false
+}
+
+fn is_some_ref(refs: &[Ref]) -> bool
+    ensures { result ≡ false → refs.now ≡ [] }
+{
+    match refs {
+        [] => false,
+        [_, ..] => true,
     }
 }
 

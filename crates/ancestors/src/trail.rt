@@ -34,8 +34,8 @@ fn has_turns_left<N: Names>(names: &N, trail: &Stack<Visited>) -> bool
     is_below_turns(names, trail.len())
 }
 
-// Whether lines have more turns than so many. The declarations are not counted: it asks for one of them.
-fn is_below_turns<N: Names>(names: &N, taken: usize) -> bool
+/// Whether lines have more turns than so many. The declarations are not counted: it asks for one of them.
+pub(crate) fn is_below_turns<N: Names>(names: &N, taken: usize) -> bool
     ensures { result ≡ nat_lt taken (turns (N.all names.now)) }
 {
     if taken == 0 {
@@ -44,8 +44,8 @@ fn is_below_turns<N: Names>(names: &N, taken: usize) -> bool
     names.decl_at(((taken - 1) / 2) as u64).is_some()
 }
 
-// Whether a name is on a trail in this kind.
-fn is_on(trail: &Stack<Visited>, name: &TypeName, kind: Kind) -> bool
+/// Whether a name is on a trail in this kind.
+pub(crate) fn is_on(trail: &Stack<Visited>, name: &TypeName, kind: Kind) -> bool
     ensures { result ≡ is_on (trail_of trail.now) name.now.path kind }
 {
     is_among(trail.bottom_up(), name, kind)

@@ -1,5 +1,5 @@
 use Rattle.ancestors.proofs.ReferenceLemmas.{referred_whole}
-use Rattle.ancestors.proofs.applied.referred.Goals as goal
+use Rattle.ancestors.proofs.applied.all_referred.Goals as goal
 
 pub returns : goal.returns
 returns g c =
