@@ -46,10 +46,10 @@ any_kept : {T : Type 0} (test p : T → Bool) (xs : List T) → list_any test (f
 any_kept test p [] there = there
 any_kept test p (x ∷ xs) there = found_kept test p x xs (p x) (any_kept test p xs) there
 
-or_left : (a b : Bool) → a ≡ true → (a || b) ≡ true
+pub or_left : (a b : Bool) → a ≡ true → (a || b) ≡ true
 or_left a b there = ap (λ c. c || b) there
 
-or_right : (a b : Bool) → b ≡ true → (a || b) ≡ true
+pub or_right : (a b : Bool) → b ≡ true → (a || b) ≡ true
 or_right true b there = refl
 or_right false b there = there
 
@@ -59,7 +59,7 @@ any_left test xs ys there = list_any-append test xs ys ∙ or_left (list_any tes
 any_right : {T : Type 0} (test : T → Bool) (xs ys : List T) → list_any test ys ≡ true → list_any test (xs ++ ys) ≡ true
 any_right test xs ys there = list_any-append test xs ys ∙ or_right (list_any test xs) (list_any test ys) there
 
-any_map : {S T : Type 0} (f : S → T) (test : T → Bool) (xs : List S) → list_any test (map f xs) ≡ list_any (λ x. test (f x)) xs
+pub any_map : {S T : Type 0} (f : S → T) (test : T → Bool) (xs : List S) → list_any test (map f xs) ≡ list_any (λ x. test (f x)) xs
 any_map f test [] = refl
 any_map f test (x ∷ xs) = ap (λ b. test (f x) || b) (any_map f test xs)
 
@@ -74,19 +74,22 @@ any_living e name zero ps there = there
 any_living e name (suc n) ps there =
     any_kept (λ (p : Placed). same_word name p.given.name) (λ p. not (is_dead e ps p)) ps (any_living e name n (filter (λ p. not (is_dead e ps p)) ps) there)
 
+pub any_placed_by : (test : GivenMethod → Bool) (n : ℕ) (gs : List GivenMethod) → list_any (λ (p : Placed). test p.given) (placed_from n gs) ≡ list_any test gs
+any_placed_by test n [] = refl
+any_placed_by test n (g ∷ gs) = ap (λ b. test g || b) (any_placed_by test (suc n) gs)
+
 any_placed : (name : List ℕ) (n : ℕ) (gs : List GivenMethod) →
     list_any (λ (p : Placed). same_word name p.given.name) (placed_from n gs) ≡ list_any (λ (g : GivenMethod). same_word name g.name) gs
-any_placed name n [] = refl
-any_placed name n (g ∷ gs) = ap (λ b. same_word name g.name || b) (any_placed name (suc n) gs)
+any_placed name n gs = any_placed_by (λ (g : GivenMethod). same_word name g.name) n gs
 
 -- what is declared by a method that lives is given
-living_is_given : (e : List ℕ → Bool) (name : List ℕ) (gs : List GivenMethod) →
+pub living_is_given : (e : List ℕ → Bool) (name : List ℕ) (gs : List GivenMethod) →
     list_any (λ (g : GivenMethod). same_word name g.name) (living e gs) ≡ true → list_any (λ (g : GivenMethod). same_word name g.name) gs ≡ true
 living_is_given e name gs there =
     sym (any_placed name 0 gs)
     ∙ any_living e name (length gs) (placed_from 0 gs) (sym (any_map (λ (p : Placed). p.given) (λ (g : GivenMethod). same_word name g.name) (living_after (length gs) e (placed_from 0 gs))) ∙ there)
 
-of_name_found : (name : List ℕ) (gs : List GivenMethod) (g : GivenMethod) (more : List GivenMethod) →
+pub of_name_found : (name : List ℕ) (gs : List GivenMethod) (g : GivenMethod) (more : List GivenMethod) →
     of_name name gs ≡ g ∷ more → list_any (λ (h : GivenMethod). same_word name h.name) gs ≡ true
 of_name_found name [] g more is = absurd (let no : [] ≡ g ∷ more = is in cc)
 of_name_found name (h ∷ gs) g more is = by_test (same_word name h.name) (of_name_found name gs g more) is
@@ -135,44 +138,9 @@ or_none : (m : Option Method) → or_else m None ≡ m
 or_none None = refl
 or_none (Some m) = refl
 
-same_is_some : (m : Option Method) → methods.is_some m ≡ is_some m
+pub same_is_some : (m : Option Method) → methods.is_some m ≡ is_some m
 same_is_some None = refl
 same_is_some (Some m) = refl
-
-or_there : (m other : Option Method) → is_some m ≡ true → or_else m other ≡ m
-or_there None other there = absurd (let no : false ≡ true = there in cc)
-or_there (Some m) other there = refl
-
--- a table that has a `new` needs none
-pub nothing_to_add : (made : Made) (only : (step : Step) (name : List ℕ) → same_word name (codes "new") ≡ false → made step name ≡ None)
-    (steps : List Step) (found : List ℕ → Option Method) (word : List ℕ) → word ≡ codes "new" → is_some (found word) ≡ true →
-    (name : List ℕ) → found name ≡ or_else (found name) (first_made made steps name)
-nothing_to_add made only steps found word is_word there name = by_name_is (same_word name (codes "new")) refl (word_decides name (codes "new"))
-  where
-    by_name_is : (b : Bool) → same_word name (codes "new") ≡ b → Decides b (name ≡ codes "new") → found name ≡ or_else (found name) (first_made made steps name)
-    by_name_is true is same = sym (or_there (found name) (first_made made steps name) (ap (λ n. is_some (found n)) (same.0 refl ∙ sym is_word) ∙ there))
-    by_name_is false is other = sym (ap (or_else (found name)) (first_of_other made only steps name is) ∙ or_none (found name))
-
--- a table that has no `new` gets the one that is made, if there is one
-pub new_to_add : (made : Made) (only : (step : Step) (name : List ℕ) → same_word name (codes "new") ≡ false → made step name ≡ None)
-    (steps : List Step) (found after : List ℕ → Option Method) (word : List ℕ) (new : Option Method) → word ≡ codes "new" →
-    is_some (found word) ≡ false → new ≡ first_made made steps (codes "new") →
-    ((name : List ℕ) → after name ≡ (if same_word word name then new else found name)) →
-    (name : List ℕ) → after name ≡ or_else (found name) (first_made made steps name)
-new_to_add made only steps found after word new is_word none is_new put name = put name ∙ by_test (same_word word name) (word_decides word name) (same_word name (codes "new")) refl (word_decides name (codes "new"))
-  where
-    nothing : (m other : Option Method) → is_some m ≡ false → or_else m other ≡ other
-    nothing None other none = refl
-    nothing (Some m) other none = absurd (let no : true ≡ false = none in cc)
-
-    by_test : (b : Bool) → Decides b (word ≡ name) → (c : Bool) → same_word name (codes "new") ≡ c → Decides c (name ≡ codes "new") →
-        (if b then new else found name) ≡ or_else (found name) (first_made made steps name)
-    by_test true same c is_c new_c =
-        let at : name ≡ codes "new" = sym (same.0 refl) ∙ is_word in
-        is_new ∙ ap (first_made made steps) (sym at)
-        ∙ sym (nothing (found name) (first_made made steps name) (ap (λ n. is_some (found n)) (sym (same.0 refl)) ∙ none))
-    by_test false apart true is_c same = absurd (true_not_false (sym (apart.1 (is_word ∙ sym (same.0 refl)))))
-    by_test false apart false is_c other = sym (ap (or_else (found name)) (first_of_other made only steps name is_c) ∙ or_none (found name))
 
 -- ---- the count
 

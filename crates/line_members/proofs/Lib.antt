@@ -1,7 +1,9 @@
 pub mod AlongLemmas
 pub mod CountLemmas
 pub mod DefinitionLemmas
+pub mod EntryLemmas
+pub mod FewLemmas
 pub mod MakingLemmas
-pub mod SeenLemmas
+pub mod SideLemmas
 pub mod VariableLemmas
 pub mod WordLemmas

@@ -15,7 +15,7 @@ use Rattle.sig_rules.proofs.OrderLemmas.{path_decides}
 use Rattle.sig_rules.specs.Lines.{line}
 use Rattle.sig_rules.specs.Methods.{along, declared_along, first_made, initialize_of, new_made, nothing_made, or_else, same_word}
 use Rattle.sig_rules.specs.Worlds.{by_name}
-use Rattle.line_members.specs.Along.{IsDeclaredAlong, first_class, is_class_itself, known_initialize, made_knowing, new_by}
+use Rattle.line_members.specs.Along.{IsListed, first_class, is_class_itself, known_initialize, made_knowing, new_by}
 
 -- where nothing is made there is no first
 pub nothing_is_first : (steps : List Step) (name : List ℕ) → first_made nothing_made steps name ≡ None
@@ -47,11 +47,11 @@ or_nothing (Some m) = refl
 pub along_nothing : (all : List Declared) (steps : List Step) (name : List ℕ) → along all nothing_made steps name ≡ declared_along all nothing_made steps name
 along_nothing all steps name = ap (or_else (declared_along all nothing_made steps name)) (nothing_is_first steps name) ∙ or_nothing (declared_along all nothing_made steps name)
 
--- the `initialize` of a class in the table of its instances' methods
-pub initialize_in : (all : List Declared) (path : Path) (methods : List (List ℕ × Method)) (word : List ℕ) → word ≡ codes "initialize" →
-    IsDeclaredAlong all nothing_made (line all path Instance).steps methods → by_name methods word ≡ initialize_of all path
-initialize_in all path methods word is declared =
-    declared word ∙ ap (declared_along all nothing_made (line all path Instance).steps) is ∙ sym (along_nothing all (line all path Instance).steps (codes "initialize"))
+-- the `initialize` of a class in the list of its instances' methods
+pub initialize_in : (all : List Declared) (path : Path) (methods : List (List ℕ × Method)) →
+    IsListed (declared_along all nothing_made (line all path Instance).steps) methods → by_name methods (codes "initialize") ≡ initialize_of all path
+initialize_in all path methods declared =
+    declared.same (codes "initialize") ∙ sym (along_nothing all (line all path Instance).steps (codes "initialize"))
 
 -- where the `initialize` of a class is known, each class has its own
 known_is_own : (all : List Declared) (path : Path) (initialize : Option Method) → initialize ≡ initialize_of all path →

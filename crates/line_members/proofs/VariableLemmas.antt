@@ -1,8 +1,9 @@
--- The variables along a line, one more.
-use Rattle.std.proofs.Common.{◌≡◌, ℕ, ◌+◌, ◌<◌, List, [], ◌∷◌, ◌++◌, length, take, get_or, refl, sym, ap, ◌∙◌, Option, None, Some, Bool, true, false, if◌then◌else◌}
+-- The variables along a line, one step more.
+use Rattle.std.proofs.Common.{◌≡◌, ℕ, List, [], ◌∷◌, ◌++◌, filter, refl, sym, ap, ◌∙◌, Option, None, Some, Bool, true, false, not, if◌then◌else◌}
 use Rattle.std.specs.Bool.{Decides}
+use Rattle.std.specs.List.{IsDistinct}
+use Rattle.std.specs.Map.{keys_of}
 use Rattle.std.specs.Option.{is_some}
-use Rattle.std.proofs.lemmas.List.{take_more}
 use Rattle.rbs_tree.specs.declared.types.Ty.{Ty}
 use Rattle.sig_rules.specs.declared.files.Declared.{Declared}
 use Rattle.sig_rules.specs.declared.given.GivenVariable.{GivenVariable}
@@ -10,7 +11,8 @@ use Rattle.sig_rules.specs.declared.line.Step.{Step}
 use Rattle.sig_rules.specs.Given.{given_variables}
 use Rattle.sig_rules.specs.Methods.{applied_of, first_variable, same_word, variable_along}
 use Rattle.sig_rules.specs.Worlds.{by_name}
-use Rattle.line_members.specs.Along.{IsVariablesAlong, or_behind}
+use Rattle.line_members.specs.Along.{IsListed, or_behind}
+use Rattle.line_members.proofs.EntryLemmas.{own_in_front}
 use Rattle.line_members.proofs.WordLemmas.{word_decides, true_not_false}
 
 pub or_behind-none : {V : Type 0} (v : Option V) → or_behind v None ≡ v
@@ -78,35 +80,54 @@ has_now found after v none put name = put name ∙ by_test (same_word v.name nam
 
 -- ---- along a line
 
--- the variables along some steps and one more
-along_more : (all : List Declared) (steps : List Step) (step : Step) (name : List ℕ) →
-    variable_along all (steps ++ step ∷ []) name ≡ or_behind (variable_along all steps name) (first_variable name (given_variables all (applied_of all step) step.kind))
-along_more all [] step name = last (first_variable name (given_variables all (applied_of all step) step.kind)) refl
+-- the variables of a step are before those behind it
+step_first : (all : List Declared) (step : Step) (rest : List Step) (name : List ℕ) →
+    variable_along all (step ∷ rest) name ≡ or_behind (first_variable name (given_variables all (applied_of all step) step.kind)) (variable_along all rest name)
+step_first all step rest name = one (first_variable name (given_variables all (applied_of all step) step.kind)) refl
   where
-    last : (o : Option Ty) → first_variable name (given_variables all (applied_of all step) step.kind) ≡ o → variable_along all (step ∷ []) name ≡ o
-    last None is = rw is refl
-    last (Some ty) is = rw is refl
-along_more all (s ∷ steps) step name = one (first_variable name (given_variables all (applied_of all s) s.kind)) refl (along_more all steps step name)
-  where
-    one : (o : Option Ty) → first_variable name (given_variables all (applied_of all s) s.kind) ≡ o →
-        variable_along all (steps ++ step ∷ []) name ≡ or_behind (variable_along all steps name) (first_variable name (given_variables all (applied_of all step) step.kind)) →
-        variable_along all (s ∷ (steps ++ step ∷ [])) name ≡ or_behind (variable_along all (s ∷ steps) name) (first_variable name (given_variables all (applied_of all step) step.kind))
-    one None is behind = rw is behind
-    one (Some ty) is behind = rw is refl
+    one : (o : Option Ty) → first_variable name (given_variables all (applied_of all step) step.kind) ≡ o →
+        variable_along all (step ∷ rest) name ≡ or_behind (first_variable name (given_variables all (applied_of all step) step.kind)) (variable_along all rest name)
+    one None is = rw is refl
+    one (Some ty) is = rw is refl
 
--- what a loop over steps has found, one step later
-pub variables_more : (all : List Declared) (steps : List Step) (i : ℕ) (step : Step) (before after : List (List ℕ × Ty)) (given : List GivenVariable) →
-    i < length steps → step ≡ get_or steps i step → IsVariablesAlong all (take i steps) before →
+-- a list of the variables behind a step becomes one of those from it on
+pub one_more : (all : List Declared) (step : Step) (rest : List Step) (behind variables : List (List ℕ × Ty)) (given : List GivenVariable) →
     given ≡ given_variables all (applied_of all step) step.kind →
-    ((name : List ℕ) → by_name after name ≡ or_behind (by_name before name) (first_variable name given)) →
-    IsVariablesAlong all (take (i + 1) steps) after
-variables_more all steps i step before after given within is so_far is_given put name =
-    let more : take (i + 1) steps ≡ take i steps ++ step ∷ [] = take_more steps i step within ∙ ap (λ (s : Step). take i steps ++ s ∷ []) (sym is) in
-    put name
-    ∙ ap (λ (o : Option Ty). or_behind o (first_variable name given)) (so_far name)
-    ∙ ap (λ (gs : List GivenVariable). or_behind (variable_along all (take i steps) name) (first_variable name gs)) is_given
-    ∙ sym (ap (λ (ss : List Step). variable_along all ss name) more ∙ along_more all (take i steps) step name)
+    IsListed (variable_along all rest) behind →
+    IsListed (λ name. or_behind (first_variable name given) (by_name behind name)) variables →
+    IsListed (variable_along all (step ∷ rest)) variables
+one_more all step rest behind variables given is is_behind is_from = record {
+  same = λ name.
+      is_from.same name
+      ∙ ap (λ (gs : List GivenVariable). or_behind (first_variable name gs) (by_name behind name)) is
+      ∙ ap (or_behind (first_variable name (given_variables all (applied_of all step) step.kind))) (is_behind.same name)
+      ∙ sym (step_first all step rest name);
+  once = is_from.once;
+}
 
--- the same variables in a list
-pub same_variables : (all : List Declared) (steps : List Step) (table entries : List (List ℕ × Ty)) → IsVariablesAlong all steps table → entries ≡ table → IsVariablesAlong all steps entries
-same_variables all steps table entries are same = λ name. ap (λ (es : List (List ℕ × Ty)). by_name es name) same ∙ are name
+-- where no variable is given, what is behind is found
+pub no_variables : (given : List GivenVariable) (behind : List (List ℕ × Ty)) → given ≡ [] → IsDistinct same_word (keys_of behind) →
+    IsListed (λ name. or_behind (first_variable name given) (by_name behind name)) behind
+no_variables given behind is once = record { same = λ name. sym (ap (λ (gs : List GivenVariable). or_behind (first_variable name gs) (by_name behind name)) is); once = once }
+
+-- a list of own variables, and behind it those of other names
+pub variables_in_front : (given : List GivenVariable) (table own behind both : List (List ℕ × Ty)) →
+    ((name : List ℕ) → by_name table name ≡ first_variable name given) → own ≡ table → IsDistinct same_word (keys_of own) → IsDistinct same_word (keys_of behind) →
+    both ≡ own ++ filter (λ (e : List ℕ × Ty). not (is_some (by_name table e.0))) behind →
+    IsListed (λ name. or_behind (first_variable name given) (by_name behind name)) both
+variables_in_front given table own behind both is_table same once once_behind is =
+    let listed : IsListed (λ name. if is_some (by_name table name) then by_name table name else by_name behind name) both =
+    own_in_front (λ name. is_some (by_name table name)) (by_name table) own behind both
+    (record { same = λ name. ap (λ (es : List (List ℕ × Ty)). by_name es name) same ∙ by_some (by_name table name); once = once }) once_behind is in
+    record {
+      same = λ name. listed.same name ∙ in_front (by_name table name) (by_name behind name) ∙ ap (λ (o : Option Ty). or_behind o (by_name behind name)) (is_table name);
+      once = listed.once;
+    }
+  where
+    by_some : (o : Option Ty) → o ≡ (if is_some o then o else None)
+    by_some None = refl
+    by_some (Some ty) = refl
+
+    in_front : (o b : Option Ty) → (if is_some o then o else b) ≡ or_behind o b
+    in_front None b = refl
+    in_front (Some ty) b = refl

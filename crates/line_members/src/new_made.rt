@@ -1,20 +1,20 @@
 ghost use Rattle.std.specs.Prelude.{◌≡◌, true, IfOk, IfSome};
 ghost use Rattle.std.specs.Option.{option_copied};
 ghost use Rattle.sig_rules.specs.Lines.{is_self_type};
-ghost use Rattle.sig_rules.specs.Methods.{initialize_of, nothing_made};
+ghost use Rattle.sig_rules.specs.Methods.{declared_along, initialize_of, nothing_made};
 ghost use Rattle.sig_rules.specs.Types.{sort};
 ghost use Rattle.sig_rules.specs.declared.line.Kind.TheVariants.{Instance};
 ghost use Rattle.sig_rules.specs.Lines.{line};
-ghost use Rattle.line_members.specs.Along.{IsDeclaredAlong, first_class, is_class_itself, known_initialize, new_by};
+ghost use Rattle.line_members.specs.Along.{IsListed, first_class, is_class_itself, known_initialize, new_by};
 
-use crate::along::methods_along;
+use crate::entries::{Methods, method_named};
 use crate::making::NothingMade;
+use crate::methods::methods_along;
 use crate::new_methods::{is_class_itself, new_by};
-use crate::seen::Seen;
-use method_steps::{Making, NameTable};
+use method_steps::Making;
 use rbs_tree::TypeName;
-use sig_rules::{Kind, Lines, Method, Names, Step};
-use src_text::{Mem, Text};
+use sig_rules::{Kind, Lines, Method, Names, Shared, Step};
+use src_text::{Mem, Seq};
 use std::alloc::Global;
 
 /// A class itself has the `new` that its `initialize` gives.
@@ -33,12 +33,12 @@ impl<L: Lines> Making for NewMade<'_, L> {
     ghost made = { λ m. made_knowing (L.all m.lines.now) m.of.now.path (option_copied m.initialize) };
 
     #[tactic(auto, using(crate::proofs::MakingLemmas::first_is_made))]
-    fn makes_new(&self, steps: &[Step]) -> bool {
+    fn makes_new(&self, steps: &[Shared<Step>]) -> bool {
         first_class(self.lines, steps).is_some()
     }
 
     #[tactic(auto, using(crate::proofs::MakingLemmas::first_is_made))]
-    fn first_new(&self, alloc: Global, steps: &[Step]) -> Mem<Option<Method>> {
+    fn first_new(&self, alloc: Global, steps: &[Shared<Step>]) -> Mem<Option<Method>> {
         match first_class(self.lines, steps) {
             None => Ok(None),
             Some(step) => Ok(Some(new_of(alloc, self.lines, self.of, self.initialize, step)?)),
@@ -49,14 +49,14 @@ impl<L: Lines> Making for NewMade<'_, L> {
 }
 
 // The first of some steps that is a class itself.
-fn first_class<'a, N: Names>(names: &N, steps: &'a [Step]) -> Option<&'a Step>
+fn first_class<'a, N: Names>(names: &N, steps: &'a [Shared<Step>]) -> Option<&'a Step>
     ensures first { option_copied result ≡ first_class (N.all names.now) steps.now }
     ensures class { IfSome result (λ step. is_class_itself (N.all names.now) step.now ≡ true) }
 {
     let mut rest = steps;
     while let [step, more @ ..] = rest {
-        if is_class_itself(names, step) {
-            return Some(step);
+        if is_class_itself(names, step.get()) {
+            return Some(step.get());
         }
         rest = more;
     }
@@ -87,26 +87,36 @@ fn new_by_line<L: Lines>(alloc: Global, lines: &L, step: &Step) -> Mem<Method>
     ensures { IfOk result (λ new. new ≡ new_by (L.all lines.now) step.now (initialize_of (L.all lines.now) step.now.name.path)) }
 {
     let methods = instance_methods(alloc, lines, &step.name)?;
-    let word = Text::from_str(alloc, "initialize")?;
-    new_by(alloc, lines, step, methods.get(&word))
+    new_by(
+        alloc,
+        lines,
+        step,
+        method_named(methods.as_slice(), "initialize"),
+    )
 }
 
-/// The methods of the instances of a class or a module of this full name, or of an interface.
-pub(crate) fn instance_methods<L: Lines>(
-    alloc: Global,
-    lines: &L,
-    name: &TypeName,
-) -> Mem<NameTable<Method>>
+// The methods of the instances of a class or a module of this full name, or of an interface.
+fn instance_methods<L: Lines>(alloc: Global, lines: &L, name: &TypeName) -> Mem<Methods>
     requires { is_self_type (sort (L.all lines.now) name.now.path) ≡ true }
-    ensures { IfOk result (IsDeclaredAlong (L.all lines.now) nothing_made (line (L.all lines.now) name.now.path Instance).steps) }
+    ensures { IfOk result (IsListed (declared_along (L.all lines.now) nothing_made (line (L.all lines.now) name.now.path Instance).steps)) }
 {
     let steps = steps_of(lines, name, Kind::Instance);
-    let mut seen = Seen::new(alloc);
-    methods_along(alloc, lines, &NothingMade, steps, &mut seen)
+    methods_along(
+        alloc,
+        lines,
+        &NothingMade,
+        steps,
+        steps.len(),
+        Seq::new(alloc),
+    )
 }
 
 /// The steps of the line of a class, a module or an interface.
-pub(crate) fn steps_of<'a, L: Lines>(lines: &'a L, name: &TypeName, kind: Kind) -> &'a [Step]
+pub(crate) fn steps_of<'a, L: Lines>(
+    lines: &'a L,
+    name: &TypeName,
+    kind: Kind,
+) -> &'a [Shared<Step>]
     requires { is_self_type (sort (L.all lines.now) name.now.path) ≡ true }
     ensures { result.now ≡ (line (L.all lines.now) name.now.path kind).steps }
 {

@@ -7,7 +7,7 @@ ghost use Rattle.sig_rules.specs.Methods.{new_overload, new_overloads};
 ghost use Rattle.sig_rules.specs.Types.{first_params};
 ghost use Rattle.line_members.specs.Along.{is_class_itself, new_by};
 
-use crate::along::own_params;
+use crate::applied::own_params;
 use rbs_tree::{MethodType, Ty, TypeName, copy_name};
 use sig_rules::{Kind, Method, Names, Sort, Step, Visibility, joined_name};
 use src_text::{Mem, Seq, Text};
