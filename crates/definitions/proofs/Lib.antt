@@ -1,3 +1,4 @@
+pub mod MadeLemmas
 pub mod NameLemmas
 pub mod ProjectLemmas
 pub mod TableLemmas

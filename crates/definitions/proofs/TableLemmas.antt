@@ -1,12 +1,14 @@
 -- What tables have of names.
-use Rattle.std.proofs.Common.{◌≡◌, ◌∙◌, ℕ, ◌+◌, ◌<◌, ◌≤◌, ◌||◌, inl, inr, Bool, true, false, true≢false, List, [], ◌∷◌, ◌++◌, if◌then◌else◌, length, get_or, take, filter, codes, Option, Some, None, Result, Ok, IfOk, refl, sym, ap, subst, arith}
+use Rattle.std.proofs.Common.{◌≡◌, ◌∙◌, ℕ, ◌+◌, ◌<◌, ◌≤◌, ◌||◌, inl, inr, Bool, true, false, true≢false, List, [], ◌∷◌, ◌++◌, if◌then◌else◌, length, get_or, map, take, filter, codes, Option, Some, None, Result, Ok, IfOk, refl, sym, ap, subst, arith}
 use Rattle.std.specs.List.{list_any, flat_map}
+use Rattle.std.specs.List.Sorted.{IsPermutation}
 use Rattle.std.specs.Map.{lookup}
 use Rattle.std.specs.Option.{option_map}
-use Rattle.std.proofs.lemmas.List.{map_more}
+use Rattle.std.proofs.lemmas.List.{map-append, map_more}
 use Rattle.std.proofs.lemmas.Result.{IfOk-at_ok}
 use Rattle.src_text.specs.declared.memory.NoMemory.{NoMemory}
 use Rattle.std.proofs.lemmas.List.Folds.{list_any-append}
+use Rattle.std.proofs.lemmas.List.Sorted.{IsPermutation-map, list_any-IsPermutation}
 use Rattle.rbs_tree.specs.declared.names.TypeName.{TypeName}
 use Rattle.sig_rules.specs.declared.files.Declared.{Declared}
 use Rattle.sig_rules.specs.declared.limits.BuildFault.{BuildFault}
@@ -14,7 +16,6 @@ use Rattle.sig_rules.specs.declared.limits.BuildFault.TheVariants as fault
 use Rattle.sig_rules.specs.declared.line.Kind.{Kind}
 use Rattle.sig_rules.specs.declared.line.Kind.TheVariants.{Instance, Singleton}
 use Rattle.sig_rules.specs.declared.line.Line.{Line}
-use Rattle.sig_rules.specs.declared.method.Both.{Both}
 use Rattle.sig_rules.specs.declared.method.Definition.{Definition}
 use Rattle.sig_rules.specs.declared.sort.Sort.{Sort}
 use Rattle.sig_rules.specs.declared.sort.Sort.TheVariants as sorts
@@ -26,7 +27,10 @@ use Rattle.sig_rules.specs.Sorted.{paths_of}
 use Rattle.sig_rules.specs.Types.{sort}
 use Rattle.sig_rules.specs.Worlds.{Defines, IsDefinition, IsShape, line_of}
 use Rattle.sig_rules.proofs.OrderLemmas.{path_decides, path_equivalence}
-use Rattle.definitions.specs.Tables.{AreDefinitions, AreLines, Holds, HoldsOf, IsAlias, IsFewShape, IsHad, IsTooMany, Puts, PutsFound, definition_on, has_lines, has_sides, is_interface, line_on}
+use Rattle.line_members.specs.declared.sides.Side.{Side}
+use Rattle.line_members.specs.Sides.{Describes}
+use Rattle.definitions.specs.declared.sides.Sides.{Sides}
+use Rattle.definitions.specs.Tables.{AreDefinitions, AreLines, Holds, HoldsOf, IsAlias, IsFewShape, IsHad, IsSound, IsTooMany, Puts, PutsFound, definition_on, has_lines, has_sides, is_interface, line_on, side_on}
 use Rattle.definitions.proofs.NameLemmas.{undeclared}
 
 -- a key that is the same
@@ -75,8 +79,33 @@ module _ {V : Type 0} (is : Path → Option V → Type 0) where
       in
       subst (λ ps. HoldsOf is ps new) (sym more) (holds_more (paths_of (take i list)) old new name.path found holds own puts)
 
+  -- the same of a loop over items, each with a name
+  pub holds_next_of : {A : Type 0} (name_of : A → TypeName) (items : List A) (i : ℕ) (item : A) (old new : List (Path × V)) (found : Option V) → i < length items → item ≡ get_or items i item → HoldsOf is (paths_of (map name_of (take i items))) old → is (name_of item).path found → PutsFound old new (name_of item).path found → HoldsOf is (paths_of (map name_of (take (i + 1) items))) new
+  holds_next_of name_of items i item old new found within same holds own puts =
+      let more : paths_of (map name_of (take (i + 1) items)) ≡ paths_of (map name_of (take i items)) ++ (name_of item).path ∷ [] =
+      ap paths_of (map_more name_of items i item within)
+      ∙ map-append (λ (n : TypeName). n.path) (map name_of (take i items)) (name_of (get_or items i item) ∷ [])
+      ∙ ap (λ a. paths_of (map name_of (take i items)) ++ (name_of a).path ∷ []) (sym same)
+      in
+      subst (λ ps. HoldsOf is ps new) (sym more) (holds_more (paths_of (map name_of (take i items))) old new (name_of item).path found holds own puts)
+
   pub holds_nothing : HoldsOf is [] []
   holds_nothing path = refl
+
+  -- the names in another order
+  pub holds_permuted : (list others : List TypeName) (entries : List (Path × V)) → IsPermutation list others → HoldsOf is (paths_of others) entries → HoldsOf is (paths_of list) entries
+  holds_permuted list others entries same holds path =
+      subst (λ b. IsHad is b path (lookup (same_path path) entries))
+      (sym (list_any-IsPermutation (same_path path) (paths_of list) (paths_of others) (IsPermutation-map (λ (n : TypeName). n.path) list others same)))
+      (holds path)
+
+  had_is : (b : Bool) (path : Path) (o : Option V) (v : V) → o ≡ Some v → IsHad is b path o → is path (Some v)
+  had_is true path o v there had = subst (is path) there had
+  had_is false path o v there had = absurd (let no : None ≡ Some v = sym had ∙ there in cc)
+
+  -- what such a table has is so
+  pub sound : (paths : List Path) (entries : List (Path × V)) → HoldsOf is paths entries → IsSound is entries
+  sound paths entries holds path v there = had_is (list_any (same_path path) paths) path (lookup (same_path path) entries) v there (holds path)
 
   had_all : (b : Bool) (path : Path) (o : Option V) → IsHad is b path o → (b ≡ false → is path None) → is path o
   had_all true path o had none = had
@@ -85,6 +114,10 @@ module _ {V : Type 0} (is : Path → Option V → Type 0) where
   -- a table of all declared names
   pub holds_all : (all : List Declared) (paths : List Path) (table : List (Path × V)) → paths ≡ declared_names all → ((path : Path) → entries all path ≡ [] → is path None) → HoldsOf is paths table → Holds is table
   holds_all all paths table same none holds path = had_all (list_any (same_path path) paths) path (lookup (same_path path) table) (holds path) (λ other. none path (undeclared all path (ap (λ ps. list_any (same_path path) ps) (sym same) ∙ other)))
+
+-- items in another order have the same names in another order
+pub permuted_names : {A : Type 0} (name_of : A → TypeName) (list : List TypeName) (old new : List A) → map name_of old ≡ list → IsPermutation old new → IsPermutation list (map name_of new)
+permuted_names name_of list old new same moved = subst (λ (names : List TypeName). IsPermutation names (map name_of new)) same (IsPermutation-map name_of old new moved)
 
 -- ---- what a name has
 
@@ -118,9 +151,18 @@ lines_other all path sorts.Interface is other kind = absurd (true≢false other)
 lines_other all path sorts.Alias is other kind = rw is refl
 lines_other all path sorts.Other is other kind = rw is refl
 
+-- the line that a name has
+pub line_there : (all : List Declared) (path : Path) (kind : Kind) (l : Line) (s : Sort) → sort all path ≡ s → line_of all path kind ≡ Some l → l ≡ line all path kind
+line_there all path kind l sorts.Class is there = let same : Some l ≡ Some (line all path kind) = sym there ∙ line_some all path kind sorts.Class is refl in cc
+line_there all path kind l sorts.Module is there = let same : Some l ≡ Some (line all path kind) = sym there ∙ line_some all path kind sorts.Module is refl in cc
+line_there all path kind l sorts.Interface is there = let same : Some l ≡ Some (line all path kind) = sym there ∙ line_some all path kind sorts.Interface is refl in cc
+line_there all path kind l sorts.Alias is there = absurd (let no : None ≡ Some l = lines_other all path sorts.Alias is refl kind ∙ there in cc)
+line_there all path kind l sorts.Other is there = absurd (let no : None ≡ Some l = lines_other all path sorts.Other is refl kind ∙ there in cc)
+
 pub definitions_none : (all : List Declared) (path : Path) (s : Sort) → sort all path ≡ s → has_sides s ≡ false → AreDefinitions all path None
 definitions_none all path s is other = record {
   sides = λ kind. undefined s is other kind;
+  described = λ kind. tt;
   few = λ has. absurd (true≢false (sym has ∙ ap has_sides is ∙ other));
 }
   where
@@ -131,19 +173,24 @@ definitions_none all path s is other = record {
     undefined sorts.Alias is other kind = rw is refl
     undefined sorts.Other is other kind = rw is refl
 
-pub definitions_some : (all : List Declared) (path : Path) (s : Sort) (both : Both) → sort all path ≡ s → has_sides s ≡ true → Defines all path Instance both.instance → Defines all path Singleton both.singleton → (methods_count all path Instance ≤ most_methods) × (methods_count all path Singleton ≤ most_methods) → AreDefinitions all path (Some both)
-definitions_some all path s both is has instance singleton few = record {
-  sides = λ kind. defined s is has kind (definition_on kind both) (on_side kind);
+-- what describes a side defines it
+defined_by : (all : List Declared) (path : Path) (kind : Kind) (side : Side) → Describes all kind (line all path kind).steps side → Defines all path kind side.definition
+defined_by all path kind side known = record { methods = known.methods; variables = known.variables }
+
+pub definitions_some : (all : List Declared) (path : Path) (s : Sort) (sides : Sides) → sort all path ≡ s → has_sides s ≡ true → Describes all Instance (line all path Instance).steps sides.instance → Describes all Singleton (line all path Singleton).steps sides.singleton → methods_count all path Instance ≤ most_methods → methods_count all path Singleton ≤ most_methods → AreDefinitions all path (Some sides)
+definitions_some all path s sides is has instance singleton few_instance few_singleton = record {
+  sides = λ kind. defined s is has kind (definition_on kind sides) (defined_by all path kind (side_on kind sides) (on_side kind));
+  described = λ kind. on_side kind;
   few = λ has kind. few_on kind;
 }
   where
-    on_side : (kind : Kind) → Defines all path kind (definition_on kind both)
+    on_side : (kind : Kind) → Describes all kind (line all path kind).steps (side_on kind sides)
     on_side Instance = instance
     on_side Singleton = singleton
 
     few_on : (kind : Kind) → methods_count all path kind ≤ most_methods
-    few_on Instance = few.0
-    few_on Singleton = few.1
+    few_on Instance = few_instance
+    few_on Singleton = few_singleton
 
     defined : (s : Sort) → sort all path ≡ s → has_sides s ≡ true → (kind : Kind) (d : Definition) → Defines all path kind d → IsDefinition all path kind (Some d)
     defined sorts.Class is has kind d own = rw is own
@@ -151,6 +198,10 @@ definitions_some all path s both is has instance singleton few = record {
     defined sorts.Interface is has kind d own = absurd (true≢false (sym has))
     defined sorts.Alias is has kind d own = absurd (true≢false (sym has))
     defined sorts.Other is has kind d own = absurd (true≢false (sym has))
+
+-- a side that is in a table
+pub described_in : (all : List Declared) (entries : List (Path × Sides)) (path : Path) (kind : Kind) (sides : Sides) → IsSound (AreDefinitions all) entries → lookup (same_path path) entries ≡ Some sides → Describes all kind (line all path kind).steps (side_on kind sides)
+described_in all entries path kind sides sound there = (sound path sides there).described kind
 
 pub shape_none : (all : List Declared) (path : Path) (s : Sort) → sort all path ≡ s → is_interface s ≡ false → IsFewShape all path None
 shape_none all path s is other = record {
@@ -207,7 +258,7 @@ no_singleton_line all path is = rw is refl
 interface_itself : (all : List Declared) (path : Path) → sort all path ≡ sorts.Interface → methods_count all path Singleton ≡ 0
 interface_itself all path is = ap (λ (l : Line). length (words_once (filter (λ name. is_some (along all (new_made all) l.steps name)) (codes "new" ∷ flat_map (names_on all) l.steps)))) (no_singleton_line all path is)
 
-pub all_few : (all : List Declared) (definitions : List (Path × Both)) (shapes : List (Path × Definition)) → Holds (AreDefinitions all) definitions → Holds (IsFewShape all) shapes → (path : Path) (kind : Kind) → is_self_type (sort all path) ≡ true → methods_count all path kind ≤ most_methods
+pub all_few : (all : List Declared) (definitions : List (Path × Sides)) (shapes : List (Path × Definition)) → Holds (AreDefinitions all) definitions → Holds (IsFewShape all) shapes → (path : Path) (kind : Kind) → is_self_type (sort all path) ≡ true → methods_count all path kind ≤ most_methods
 all_few all definitions shapes defined shaped path kind fits = by_sort (sort all path) refl fits kind
   where
     by_sort : (s : Sort) → sort all path ≡ s → is_self_type s ≡ true → (kind : Kind) → methods_count all path kind ≤ most_methods

@@ -1,2 +1,3 @@
+pub mod MadeLines
 pub mod Project
 pub mod Tables

@@ -10,16 +10,19 @@ use Rattle.sig_rules.specs.declared.limits.BuildFault.TheVariants as fault
 use Rattle.sig_rules.specs.declared.line.Kind.{Kind}
 use Rattle.sig_rules.specs.declared.line.Kind.TheVariants.{Instance, Singleton}
 use Rattle.sig_rules.specs.declared.line.Line.{Line}
-use Rattle.sig_rules.specs.declared.method.Both.{Both}
 use Rattle.sig_rules.specs.declared.method.Definition.{Definition}
 use Rattle.sig_rules.specs.declared.sort.Sort.{Sort}
 use Rattle.sig_rules.specs.declared.sort.Sort.TheVariants as is
 use Rattle.sig_rules.specs.Counts.{HasSoMany, methods_count, most_methods}
 use Rattle.sig_rules.specs.Declarations.{Path, declared_names, same_path}
+use Rattle.sig_rules.specs.Lines.{line}
 use Rattle.sig_rules.specs.Methods.{same_word}
 use Rattle.sig_rules.specs.Names.{first_that}
 use Rattle.sig_rules.specs.Types.{sort, value}
 use Rattle.sig_rules.specs.Worlds.{IsDefinition, IsShape, alias_of, line_of, value_text}
+use Rattle.line_members.specs.declared.sides.Side.{Side}
+use Rattle.line_members.specs.Sides.{Describes}
+use Rattle.definitions.specs.declared.sides.Sides.{Sides}
 
 -- ---- tables
 
@@ -35,6 +38,10 @@ PutsFound old new path (Some value) = Puts same_path old new path value
 -- What a table has of a name is so.
 abbrev pub Holds : {V : Type 0} → (Path → Option V → Type 0) → List (Path × V) → Type 0
 Holds is entries = (path : Path) → is path (lookup (same_path path) entries)
+
+-- What a table has is so.
+abbrev pub IsSound : {V : Type 0} → (Path → Option V → Type 0) → List (Path × V) → Type 0
+IsSound is entries = (path : Path) (v : _) → lookup (same_path path) entries ≡ Some v → is path (Some v)
 
 -- what is had of one of some names is so, and of others there is nothing
 abbrev pub IsHad : {V : Type 0} → (Path → Option V → Type 0) → Bool → Path → Option V → Type 0
@@ -62,9 +69,12 @@ has_lines _ = false
 abbrev pub AreLines : List Declared → Path → Option (Line × Line) → Type 0
 AreLines all path lines = (kind : Kind) → option_map (line_on kind) lines ≡ line_of all path kind
 
-abbrev pub definition_on : Kind → Both → Definition
-definition_on Instance both = both.instance
-definition_on Singleton both = both.singleton
+abbrev pub side_on : Kind → Sides → Side
+side_on Instance sides = sides.instance
+side_on Singleton sides = sides.singleton
+
+abbrev pub definition_on : Kind → Sides → Definition
+definition_on kind sides = (side_on kind sides).definition
 
 -- whether a name of this sort has two sides with methods
 abbrev pub has_sides : Sort → Bool
@@ -72,9 +82,15 @@ has_sides is.Class = true
 has_sides is.Module = true
 has_sides _ = false
 
--- both definitions of a class or a module, with few methods
-pub record AreDefinitions (all : List Declared) (path : Path) (both : Option Both) : Type 0 where
-  pub sides : (kind : Kind) → IsDefinition all path kind (option_map (definition_on kind) both)
+-- what is known of a side is what is found along its line
+abbrev pub IsDescribed : List Declared → Path → Kind → Option Sides → Type 0
+IsDescribed all path kind None = Unit {0}
+IsDescribed all path kind (Some sides) = Describes all kind (line all path kind).steps (side_on kind sides)
+
+-- both sides of a class or a module, with few methods
+pub record AreDefinitions (all : List Declared) (path : Path) (found : Option Sides) : Type 0 where
+  pub sides : (kind : Kind) → IsDefinition all path kind (option_map (definition_on kind) found)
+  pub described : (kind : Kind) → IsDescribed all path kind found
   pub few : has_sides (sort all path) ≡ true → (kind : Kind) → methods_count all path kind ≤ most_methods
 
 abbrev pub is_interface : Sort → Bool
@@ -97,7 +113,7 @@ HoldsValues all paths entries = (name : List ℕ) → lookup (same_word name) en
 -- ---- all that a project defines
 
 -- tables of all that is declared
-pub record AreDefined (all : List Declared) (of_classes : List (Path × Both)) (of_interfaces : List (Path × Definition)) (of_aliases : List (Path × (List (List ℕ) × Ty))) (of_values : List (List ℕ × Option Ty)) : Type 0 where
+pub record AreDefined (all : List Declared) (of_classes : List (Path × Sides)) (of_interfaces : List (Path × Definition)) (of_aliases : List (Path × (List (List ℕ) × Ty))) (of_values : List (List ℕ × Option Ty)) : Type 0 where
   pub definitions : Holds (AreDefinitions all) of_classes
   pub shapes : Holds (IsFewShape all) of_interfaces
   pub aliases : Holds (IsAlias all) of_aliases

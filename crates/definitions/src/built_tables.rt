@@ -5,15 +5,16 @@ ghost use Rattle.definitions.specs.Tables.{AreDefinitions, HoldsOf, IsFewShape, 
 use crate::definition_table::definitions_of;
 use crate::path_table::PathTable;
 use crate::shape_table::shapes_of;
+use crate::sides::Sides;
 use rbs_tree::TypeName;
-use sig_rules::{Both, BuildFault, Definition, Lines, Steps};
+use sig_rules::{BuildFault, Definition, Lines, Steps};
 use std::alloc::Global;
 use std::sync::ledger::{Blank, Ledger};
 
 /// The definitions of classes and modules, and the shapes of interfaces.
 #[derive(Drop)]
 pub(crate) struct BuiltTables {
-    pub(crate) definitions: PathTable<Both>,
+    pub(crate) definitions: PathTable<Sides>,
     pub(crate) shapes: PathTable<Definition>,
 }
 

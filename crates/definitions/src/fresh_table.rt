@@ -12,10 +12,10 @@ ghost use Rattle.sig_rules.specs.Worlds.{IsDefinition, IsShape, alias_of, line_o
 ghost use Rattle.definitions.specs.Project.{IsProject};
 ghost use Rattle.definitions.specs.Tables.{IsTooMany};
 
-use crate::definition_table::definition_on;
 use crate::lined_table::LinedTable;
 use crate::name_tables::{NameTables, name_tables};
 use crate::named_table::NamedTable;
+use crate::sides::definition_on;
 use rbs_tree::{Ty, TypeName};
 use sig_rules::{
     BuildFault, Declared, Definition, FileTree, Kind, Limit, LimitFault, Line, Lines, Members,
@@ -135,7 +135,7 @@ impl Members for FreshTable {
     {
         match self.tables.built.definitions.get(&name.path) {
             None => None,
-            Some(both) => Some(definition_on(both, kind)),
+            Some(sides) => Some(definition_on(sides, kind)),
         }
     }
 

@@ -1,24 +1,30 @@
-ghost use Rattle.std.specs.Prelude.{◌≡◌, slice_get, Some, IfOk};
-ghost use Rattle.std.specs.Option.{option_copied, option_map};
-ghost use Rattle.sig_rules.specs.Declarations.{entries, full_name};
+ghost use Rattle.std.specs.Prelude.{◌≡◌, slice_get, Some, IfOk, OnOk};
+ghost use Rattle.std.specs.Map.{lookup};
+ghost use Rattle.std.specs.Option.{is_some, option_copied, option_map};
+ghost use Rattle.sig_rules.specs.Declarations.{entries, full_name, same_path};
 ghost use Rattle.sig_rules.specs.declared.line.Kind.{Kind};
 ghost use Rattle.sig_rules.specs.Lines.{line};
 ghost use Rattle.sig_rules.specs.Names.{resolve};
 ghost use Rattle.sig_rules.specs.Sorted.{paths_of};
 ghost use Rattle.sig_rules.specs.Worlds.{line_of};
-ghost use Rattle.definitions.specs.Tables.{AreLines, Holds, HoldsOf, has_lines, line_on};
+ghost use Rattle.definitions.specs.Tables.{AreLines, Holds, PutsFound, has_lines, line_on};
+ghost use Rattle.definitions.specs.MadeLines.{IsSound, Keeps, MadeOf, line_at};
 
 use crate::key_table::KeyTable;
 use crate::name_list::declared_names;
 use crate::named_table::NamedTable;
 use crate::path_table::{PathTable, put_found};
-use ancestors::{instance_list, singleton_list};
+use ancestors::{Known, instance_list_knowing, singleton_list_knowing, superclass_name};
 use rbs_tree::{TypeName, both};
-use sig_rules::{Declared, Kind, Line, Lines, Names, Sort};
-use src_text::Mem;
+use sig_rules::{Declared, Kind, Line, Lines, Names, Sort, joined_name};
+use src_text::{Mem, Text};
 use std::alloc::Global;
 use std::marker::Model;
+use std::slice;
 use type_meaning::sort;
+
+/// So many superclasses of a name are made before it; those above them are walked.
+const MOST_CLIMBED: usize = 1_024;
 
 /// The names of a project, with the lines of its classes, modules and interfaces.
 ///
@@ -27,7 +33,7 @@ use type_meaning::sort;
 pub(crate) struct LinedTable {
     named: NamedTable,
     /// For each class, module and interface the line of its instances and its own.
-    lines: PathTable<(Line, Line)>,
+    lines: MadeLines,
 }
 
 impl Model for LinedTable {
@@ -58,32 +64,167 @@ impl LinedTable {
     }
 }
 
+/// For each class, module and interface of which they are made, the line of its instances and its own.
+#[derive(Drop)]
+pub(crate) struct MadeLines {
+    table: PathTable<(Line, Line)>,
+}
+
+impl Model for MadeLines {
+    ghost use Rattle.std.specs.Prelude.{List};
+    ghost use Rattle.sig_rules.specs.Declarations.{Path};
+    ghost use Rattle.sig_rules.specs.declared.line.Line.{Line};
+
+    ghost Value = { List (Path × (Line × Line)) };
+
+    ghost use Rattle.std.specs.Coded.{codes};
+    ghost use Rattle.sig_rules.specs.contracts.line.Line as of_line;
+
+    ghost coded = { Prim.hlevel (codes, of_line.the_row.coded) };
+
+    ghost view = { λ made. made.table };
+}
+
+impl Known for MadeLines {
+    ghost lines = { λ made path kind. line_at made path kind };
+
+    fn known_line(&self, name: &TypeName, kind: Kind) -> Option<&Line>
+        ensures { option_copied result ≡ line_at self.now name.now.path kind }
+    {
+        match self.table.get(&name.path) {
+            None => None,
+            Some(lines) => Some(line_on(lines, kind)),
+        }
+    }
+}
+
 // The lines of all classes, modules and interfaces.
-fn all_lines<N: Names>(alloc: Global, names: &N) -> Mem<PathTable<(Line, Line)>>
+fn all_lines<N: Names>(alloc: Global, names: &N) -> Mem<MadeLines>
     ensures { IfOk result (Holds (AreLines (N.all names.now))) }
 {
     let list = declared_names(alloc, names)?;
-    lines_of(alloc, names, list.as_slice())
+    let mut made = MadeLines {
+        table: KeyTable::new(alloc),
+    };
+    make_first(alloc, names, "Class", &mut made)?;
+    make_all(alloc, names, list.as_slice(), &mut made)?;
+    Ok(made)
 }
 
-// The lines of those of these names that have them.
-fn lines_of<N: Names>(alloc: Global, names: &N, list: &[TypeName]) -> Mem<PathTable<(Line, Line)>>
-    ensures { IfOk result (HoldsOf (AreLines (N.all names.now)) (paths_of list.now)) }
+// Makes the lines of the full name of one word, which stand behind others.
+fn make_first<N: Names>(alloc: Global, names: &N, word: &str, made: &mut MadeLines) -> Mem<()>
+    requires { IsSound (N.all names.now) made.now }
+    ensures { OnOk result (IsSound (N.all names.now) made.new) }
 {
-    let mut table = KeyTable::new(alloc);
+    let word = Text::from_str(alloc, word)?;
+    let name = joined_name(alloc, &[], slice::from_ref(&word))?;
+    make(alloc, names, &name, made)
+}
+
+// Makes the lines of these names.
+fn make_all<N: Names>(alloc: Global, names: &N, list: &[TypeName], made: &mut MadeLines) -> Mem<()>
+    requires { IsSound (N.all names.now) made.now }
+    ensures sound { OnOk result (IsSound (N.all names.now) made.new) }
+    ensures made { OnOk result (MadeOf (N.all names.now) (paths_of list.now) made.new) }
+{
     for name in list {
-        let found = lines_at(alloc, names, name)?;
-        put_found(alloc, &mut table, name, found)?;
+        make(alloc, names, name, made)?;
     }
-    Ok(table)
+    Ok(())
+}
+
+// Makes the lines of a name, and before them those of its superclasses, from the top down.
+fn make<N: Names>(alloc: Global, names: &N, name: &TypeName, made: &mut MadeLines) -> Mem<()>
+    requires { IsSound (N.all names.now) made.now }
+    ensures sound { OnOk result (IsSound (N.all names.now) made.new) }
+    ensures kept { OnOk result (Keeps (N.all names.now) made.old made.new) }
+    ensures made { OnOk result (AreLines (N.all names.now) name.now.path (lookup (same_path name.now.path) made.new)) }
+{
+    make_above(alloc, names, name, made)?;
+    make_one(alloc, names, name, made)?;
+    Ok(())
+}
+
+// Makes the lines of the superclasses of a name, from the top down.
+fn make_above<N: Names>(alloc: Global, names: &N, name: &TypeName, made: &mut MadeLines) -> Mem<()>
+    requires { IsSound (N.all names.now) made.now }
+    ensures sound { OnOk result (IsSound (N.all names.now) made.new) }
+    ensures kept { OnOk result (Keeps (N.all names.now) made.old made.new) }
+{
+    let mut above = unmade_above(alloc, names, name, made)?;
+    while let Some(superclass) = above.pop() {
+        make_one(alloc, names, superclass, made)?;
+    }
+    Ok(())
+}
+
+// The superclasses of a name of which no lines are made, from the nearest on. They tell in which order lines are made, and no more.
+fn unmade_above<'a, N: Names>(
+    alloc: Global,
+    names: &'a N,
+    name: &TypeName,
+    made: &MadeLines,
+) -> Mem<Vec<&'a TypeName>> {
+    let mut above = Vec::new(alloc);
+    let mut next = superclass_name(names, name);
+    for _ in 0..MOST_CLIMBED {
+        match next {
+            None => return Ok(above),
+            Some(superclass) => {
+                if made.has(superclass) {
+                    return Ok(above);
+                }
+                above.push(superclass)?;
+                next = superclass_name(names, superclass);
+            }
+        }
+    }
+    Ok(above)
+}
+
+// Makes the lines of a name, where there are none yet.
+fn make_one<N: Names>(alloc: Global, names: &N, name: &TypeName, made: &mut MadeLines) -> Mem<()>
+    requires { IsSound (N.all names.now) made.now }
+    ensures sound { OnOk result (IsSound (N.all names.now) made.new) }
+    ensures kept { OnOk result (Keeps (N.all names.now) made.old made.new) }
+    ensures made { OnOk result (AreLines (N.all names.now) name.now.path (lookup (same_path name.now.path) made.new)) }
+{
+    if made.has(name) {
+        return Ok(());
+    }
+    let found = lines_at(alloc, names, made, name)?;
+    made.put(alloc, name, found)?;
+    Ok(())
+}
+
+impl MadeLines {
+    // Whether the lines of a name are made.
+    fn has(&self, name: &TypeName) -> bool
+        ensures { result ≡ is_some (lookup (same_path name.now.path) self.now) }
+    {
+        self.table.get(&name.path).is_some()
+    }
+
+    // Puts the lines of a name, where there are some.
+    fn put(&mut self, alloc: Global, name: &TypeName, found: Option<(Line, Line)>) -> Mem<()>
+        ensures { OnOk result (PutsFound self.old self.new name.now.path found) }
+    {
+        put_found(alloc, &mut self.table, name, found)
+    }
 }
 
 // Both lines of a full name, if it is of a class, a module or an interface.
-fn lines_at<N: Names>(alloc: Global, names: &N, name: &TypeName) -> Mem<Option<(Line, Line)>>
+fn lines_at<N: Names>(
+    alloc: Global,
+    names: &N,
+    made: &MadeLines,
+    name: &TypeName,
+) -> Mem<Option<(Line, Line)>>
+    requires { IsSound (N.all names.now) made.now }
     ensures { IfOk result (AreLines (N.all names.now) name.now.path) }
 {
     if has_lines(sort(names, name)) {
-        both_lines(alloc, names, name)
+        both_lines(alloc, names, made, name)
     } else {
         Ok(None)
     }
@@ -102,11 +243,18 @@ fn has_lines(sort: Sort) -> bool
 }
 
 // Both lines of a full name.
-fn both_lines<N: Names>(alloc: Global, names: &N, name: &TypeName) -> Mem<Option<(Line, Line)>>
+#[tactic(auto, using(crate::proofs::MadeLemmas::sound_knows))]
+fn both_lines<N: Names>(
+    alloc: Global,
+    names: &N,
+    made: &MadeLines,
+    name: &TypeName,
+) -> Mem<Option<(Line, Line)>>
+    requires { IsSound (N.all names.now) made.now }
     ensures { IfOk result (λ lines. (kind : Kind) → option_map (line_on kind) lines ≡ Some (line (N.all names.now) name.now.path kind)) }
 {
-    let instance = instance_list(alloc, names, name);
-    let singleton = singleton_list(alloc, names, name);
+    let instance = instance_list_knowing(alloc, names, made, name);
+    let singleton = singleton_list_knowing(alloc, names, made, name);
     let lines = both(instance, singleton)?;
     Ok(Some(lines))
 }
@@ -137,10 +285,7 @@ impl Lines for LinedTable {
     fn line(&self, name: &TypeName, kind: Kind) -> Option<&Line>
         ensures { option_copied result ≡ line_of self.now name.now.path kind }
     {
-        match self.lines.get(&name.path) {
-            None => None,
-            Some(lines) => Some(line_on(lines, kind)),
-        }
+        self.lines.known_line(name, kind)
     }
 }
 

@@ -1,10 +1,13 @@
-use Rattle.std.proofs.Common.{arith}
+use Rattle.std.proofs.Common.{ℕ, List, Bor, map, sym, subst}
+use Rattle.std.specs.List.Sorted.{IsPermutation}
+use Rattle.std.proofs.lemmas.Result.{IfOk-weaker}
+use Rattle.rbs_tree.specs.declared.names.TypeName.{TypeName}
 use Rattle.definitions.specs.Tables.{AreDefinitions}
-use Rattle.definitions.proofs.TableLemmas.{holds_next, holds_nothing}
+use Rattle.definitions.proofs.TableLemmas.{holds_permuted}
 use Rattle.definitions.proofs.definition_table.definitions_of.Goals as goal
 
-pub loop-name-init : goal.loop-name-init
-loop-name-init g c = rw c.new-table.ensures (holds_nothing (AreDefinitions (g.L.Names.all c.args.lines.now)))
-
-pub loop-name-preserved : goal.loop-name-preserved
-loop-name-preserved g c = holds_next (AreDefinitions (g.L.Names.all c.args.lines.now)) c.args.list.now c.loop-name.name-index c.name-item.result _ _ _ (omega arith) c.name-item.is c.loop-name.invariant c.in_ok-found.ensures.are c.in_ok-put_found.ensures
+pub returns-clause-table : goal.returns-clause-table
+returns-clause-table g c =
+    let all = g.L.Names.all c.args.lines.now in
+    let moved = subst (λ (es : List (ℕ × Bor TypeName)). IsPermutation c.args.list.now (map (λ (e : ℕ × Bor TypeName). e.1.now) es)) (sym c.as_slice.ensures.value) c.in_ok-order.ensures in
+    IfOk-weaker c.definitions_in.result _ _ (λ table holds. holds_permuted (AreDefinitions all) c.args.list.now _ table moved holds) c.definitions_in.ensures.table

@@ -1,11 +1,15 @@
-use Rattle.std.proofs.Common.{◌∙◌, ap}
-use Rattle.std.proofs.lemmas.Result.{IfOk-weaker}
+use Rattle.std.proofs.Common.{◌∙◌, ap, subst, sym}
 use Rattle.sig_rules.specs.Sorted.{paths_of}
-use Rattle.definitions.specs.Tables.{AreLines}
-use Rattle.definitions.proofs.TableLemmas.{holds_all, lines_none}
+use Rattle.definitions.specs.MadeLines.{IsSound}
+use Rattle.definitions.proofs.MadeLemmas.{made_all, sound_nothing}
 use Rattle.definitions.proofs.lined_table.all_lines.Goals as goal
+
+pub make_first-requires : goal.make_first-requires
+make_first-requires g c =
+    let all = g.N.Names.all c.args.names.now in
+    subst (IsSound all) (sym c.new.ensures) (sound_nothing all)
 
 pub returns : goal.returns
 returns g c =
     let all = g.N.Names.all c.args.names.now in
-    IfOk-weaker c.lines_of.result _ _ (λ table holds. holds_all (AreLines all) all _ table (ap paths_of c.as_slice.ensures ∙ c.in_ok-list.ensures) (lines_none all) holds) c.lines_of.ensures
+    made_all all _ _ (ap paths_of c.as_slice.ensures ∙ c.in_ok-list.ensures) c.in_ok-make_all.ensures.sound c.in_ok-make_all.ensures.made

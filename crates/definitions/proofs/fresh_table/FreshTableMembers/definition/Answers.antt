@@ -15,7 +15,7 @@ returns-in-None c =
 pub returns-in-Some : goal.returns-in-Some
 returns-in-Some c =
     let path = c.args.name.now.path in
-    let there : lookup (same_path path) c.self.inside.tables.built.definitions ≡ Some c.in-Some.both.now = search rules in
+    let there : lookup (same_path path) c.self.inside.tables.built.definitions ≡ Some c.in-Some.sides.now = search rules in
     rw (← c.self.view_is)
     (subst (λ d. IsDefinition c.self.inside.lined path c.args.kind (Some d)) (sym c.definition_on.ensures)
     (subst (λ o. IsDefinition c.self.inside.lined path c.args.kind (option_map (definition_on c.args.kind) o)) there ((c.self.invariant.definitions path).sides c.args.kind)))
