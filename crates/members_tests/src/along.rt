@@ -4,7 +4,7 @@ use ancestors::{instance_list, singleton_list};
 use given_members::{given_methods, given_variables};
 use method_steps::{NameTable, methods_from};
 use rbs_tree::{Ty, TypeName, copy_name, copy_tys};
-use sig_rules::{Applied, GivenVariable, Kind, Line, Method, Step};
+use sig_rules::{Applied, GivenVariable, Kind, Line, Method, Shared, Step};
 use src_text::{Mem, Seq};
 use std::alloc::Global;
 use type_meaning::first_params;
@@ -18,7 +18,11 @@ pub fn line_of(alloc: Global, project: &Project, name: &TypeName, kind: Kind) ->
 }
 
 /// The methods that are declared along these steps.
-pub fn methods_along(alloc: Global, project: &Project, steps: &[Step]) -> Mem<NameTable<Method>> {
+pub fn methods_along(
+    alloc: Global,
+    project: &Project,
+    steps: &[Shared<Step>],
+) -> Mem<NameTable<Method>> {
     let mut methods = NameTable::new(alloc);
     for behind in 0..steps.len() {
         let from = steps.len() - 1 - behind;
@@ -31,12 +35,13 @@ pub fn methods_along(alloc: Global, project: &Project, steps: &[Step]) -> Mem<Na
 fn methods_one_more(
     alloc: Global,
     project: &Project,
-    steps: &[Step],
+    steps: &[Shared<Step>],
     behind: NameTable<Method>,
 ) -> Mem<NameTable<Method>> {
     match steps {
         [] => Ok(behind),
-        [step, ..] => {
+        [first, ..] => {
+            let step = first.get();
             let applied = applied_of(alloc, project, step)?;
             let given = given_methods(alloc, project, &applied, step.kind)?;
             methods_from(alloc, &NothingMade, steps, behind, given)
@@ -45,9 +50,14 @@ fn methods_one_more(
 }
 
 /// The variables along these steps, each by the first step that declares it.
-pub fn variables_along(alloc: Global, project: &Project, steps: &[Step]) -> Mem<NameTable<Ty>> {
+pub fn variables_along(
+    alloc: Global,
+    project: &Project,
+    steps: &[Shared<Step>],
+) -> Mem<NameTable<Ty>> {
     let mut variables = NameTable::new(alloc);
     for step in steps {
+        let step = step.get();
         let applied = applied_of(alloc, project, step)?;
         let given = given_variables(alloc, project, &applied, step.kind)?;
         put_new(given, &mut variables)?;

@@ -46,16 +46,23 @@ impl Project {
             Err(_) => Err(NoMemory),
         }
     }
+}
 
-    /// Whether the file declares this name, be it beside the core signatures.
-    pub fn is_own(&self, name: &TypeName) -> bool {
-        for declared in self.table.entries(name) {
-            if declared.path.as_str() == FILE {
-                return true;
-            }
+/// Whether the file declares this name, be it beside the core signatures.
+pub fn is_own<N: Names>(names: &N, name: &TypeName) -> bool {
+    for declared in names.entries(name) {
+        if declared.path.as_str() == FILE {
+            return true;
         }
-        false
     }
+    false
+}
+
+/// The tree of this file, in a list of its own. One that isn't read counts as too much for the memory.
+pub fn own_file(alloc: Global, text: &str) -> Mem<Seq<FileTree>> {
+    let mut files = Seq::new(alloc);
+    files.push(file_of(alloc, FILE, text)?)?;
+    Ok(files)
 }
 
 fn file_of(alloc: Global, path: &str, text: &str) -> Mem<FileTree> {

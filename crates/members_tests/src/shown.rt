@@ -1,5 +1,5 @@
 use crate::along::{line_of, methods_along, own_params, variables_along};
-use crate::project::Project;
+use crate::project::{Project, is_own};
 use rbs_printer::{method_text, type_text};
 use rbs_tree::{MethodType, Ty, TypeName, copy_name, copy_tys};
 use sig_rules::{Kind, Method, Step, Visibility, joined_name};
@@ -17,7 +17,7 @@ pub fn line(alloc: Global, text: &str, word: &str, kind: Kind) -> Mem<String> {
         if !out.is_empty() {
             out.push_str(" ")?;
         }
-        out.push_str(step_text(alloc, step)?.as_str())?;
+        out.push_str(step_text(alloc, step.get())?.as_str())?;
     }
     if line.cut {
         out.push_str(" cut")?;
@@ -25,8 +25,8 @@ pub fn line(alloc: Global, text: &str, word: &str, kind: Kind) -> Mem<String> {
     Ok(out)
 }
 
-// The full name of one word.
-fn name_of(alloc: Global, word: &str) -> Mem<TypeName> {
+/// The full name of one word.
+pub fn name_of(alloc: Global, word: &str) -> Mem<TypeName> {
     let mut words = Seq::new(alloc);
     words.push(Text::from_str(alloc, word)?)?;
     joined_name(alloc, words.as_slice(), &[])
@@ -53,15 +53,15 @@ pub fn methods(alloc: Global, text: &str, word: &str, kind: Kind) -> Mem<String>
     let methods = methods_along(alloc, &project, line.steps.as_slice())?;
     let mut lines = Seq::new(alloc);
     for (name, method) in methods.into_entries(alloc)?.as_slice() {
-        if project.is_own(&method.owner) {
+        if is_own(&project, &method.owner) {
             lines.push(method_line(alloc, name, method)?)?;
         }
     }
     sorted(alloc, lines)
 }
 
-// A method with its name, its owner, the side on which that declares it, its visibility and its overloads.
-fn method_line(alloc: Global, name: &Text, method: &Method) -> Mem<Text> {
+/// A method with its name, its owner, the side on which that declares it, its visibility and its overloads.
+pub fn method_line(alloc: Global, name: &Text, method: &Method) -> Mem<Text> {
     let mut out = Text::from_str(alloc, name.as_str())?;
     out.push_str(" =>")?;
     put_name(&mut out, &method.owner)?;
@@ -130,7 +130,8 @@ pub fn variables(alloc: Global, text: &str, word: &str, kind: Kind) -> Mem<Strin
     sorted(alloc, lines)
 }
 
-fn variable_line(alloc: Global, name: &Text, ty: &Ty) -> Mem<Text> {
+/// A variable with its type.
+pub fn variable_line(alloc: Global, name: &Text, ty: &Ty) -> Mem<Text> {
     let mut out = Text::from_str(alloc, name.as_str())?;
     out.push_str(": ")?;
     out.push_str(type_text(alloc, ty)?.as_str())?;
@@ -148,7 +149,8 @@ pub fn meaning(alloc: Global, text: &str, word: &str) -> Mem<Text> {
     }
 }
 
-fn alias_text(alloc: Global, params: &[Text], ty: &Ty) -> Mem<Text> {
+/// What an alias with these type parameters stands for, behind them.
+pub fn alias_text(alloc: Global, params: &[Text], ty: &Ty) -> Mem<Text> {
     let mut out = Text::new(alloc);
     for param in params {
         out.push_str(param.as_str())?;

@@ -3,7 +3,7 @@ use sig_rules::Kind;
 use std::test::Fail;
 
 // A class with type parameters of one name, declared twice, and one below it.
-const MERGED: &str = "class B[T, T]
+pub const MERGED: &str = "class B[T, T]
   def m: (T) -> T
   attr_reader t: T
 end
@@ -52,7 +52,7 @@ end
 ";
 
 // A constant and an alias.
-const VALUES: &str = "K: Integer
+pub const VALUES: &str = "K: Integer
 class G[T]
 end
 type a = G[Integer]
@@ -83,7 +83,7 @@ end
 ";
 
 // Variables of each scope, one of them again.
-const HELD: &str = "class P
+pub const HELD: &str = "class P
   @a: 1
   @b: 1
   @@c: 1
@@ -97,7 +97,7 @@ end
 ";
 
 // Attributes with and without variables.
-const ATTRIBUTES: &str = "class A
+pub const ATTRIBUTES: &str = "class A
   attr_reader r: 1
   attr_writer w: 2
   attr_accessor a: 3

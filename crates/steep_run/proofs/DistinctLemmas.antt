@@ -71,3 +71,7 @@ cons_of (y ∷ xs) x some is =
     let behind : suc (length xs) - 1 ≡ length xs = omega arith in
     let rest : take (suc (length xs) - 1) xs ≡ xs = ap (λ n. take n xs) behind ∙ take-length xs in
     λ i. is i ∷ rest i
+
+-- the same, where the first one is known in another way
+pub cons_as : {A : Type 0} (xs : List A) (x y : A) → y ≡ x → 1 ≤ length xs → x ≡ get_or xs 0 x → y ∷ take (length xs - 1) (drop 1 xs) ≡ xs
+cons_as xs x y same some is = subst (λ z. z ∷ take (length xs - 1) (drop 1 xs) ≡ xs) (sym same) (cons_of xs x some is)

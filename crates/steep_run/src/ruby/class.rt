@@ -16,7 +16,7 @@ ghost use Rattle.steep_run.specs.Reading.{AreCalled, IsCalled, callable_of, foun
 use super::callable::{Callable, callable_of, is_plain_alone};
 use method_steps::NameTable;
 use rbs_tree::TypeName;
-use sig_rules::{Kind, Members, Method, Names, Sort};
+use sig_rules::{Kind, Members, Method, Names, Shared, Sort};
 use src_text::{Mem, Seq, Span, Text};
 use std::alloc::Global;
 use type_meaning::{first_params, sort};
@@ -143,7 +143,11 @@ fn has_plain_new<M: Members>(members: &M, class: &TypeName) -> bool
 }
 
 // The methods of one side of a class.
-fn methods_of<'m, M: Members>(members: &'m M, class: &TypeName, kind: Kind) -> &'m [(Text, Method)]
+fn methods_of<'m, M: Members>(
+    members: &'m M,
+    class: &TypeName,
+    kind: Kind,
+) -> &'m [Shared<(Text, Method)>]
     requires { calls.is_class (sort (M.all members.now) class.now.path) ≡ true }
     ensures { (name : List ℕ) → by_name result.now name ≡ method (M.all members.now) class.now.path kind name }
 {
@@ -154,11 +158,12 @@ fn methods_of<'m, M: Members>(members: &'m M, class: &TypeName, kind: Kind) -> &
 }
 
 // The first method of a name.
-fn method_named<'m>(methods: &'m [(Text, Method)], name: &str) -> Option<&'m Method>
+fn method_named<'m>(methods: &'m [Shared<(Text, Method)>], name: &str) -> Option<&'m Method>
     ensures { option_copied result ≡ by_name methods.now name.now }
 {
     let mut rest = methods;
-    while let [(other, method), more @ ..] = rest {
+    while let [entry, more @ ..] = rest {
+        let (other, method) = entry.get();
         if name == other.as_str() {
             return Some(method);
         }
@@ -168,13 +173,14 @@ fn method_named<'m>(methods: &'m [(Text, Method)], name: &str) -> Option<&'m Met
 }
 
 // For each name what calls of its first method are judged by.
-fn callables(alloc: Global, methods: &[(Text, Method)]) -> Mem<MethodTable>
+fn callables(alloc: Global, methods: &[Shared<(Text, Method)>]) -> Mem<MethodTable>
     ensures { IfOk result (λ table. (name : List ℕ) → by_name table name ≡ option_map callable_of (by_name methods.now name)) }
 {
     let mut table = NameTable::new(alloc);
     let mut rest = methods;
     while let [entry, more @ ..] = rest {
-        add(&mut table, &entry.0, callable_of(&entry.1))?;
+        let (name, method) = entry.get();
+        add(&mut table, name, callable_of(method))?;
         rest = more;
     }
     Ok(table)
