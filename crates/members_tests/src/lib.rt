@@ -1,5 +1,4 @@
-//! Tests of lines of ancestors, of the methods, variables and values that signatures give along them, and of the table of all that is
-//! defined.
+//! Tests of lines of ancestors, and of the methods, variables and values that signatures give along them.
 //!
 //! The rows of answers were worked out by the rules and not by this code. They stand beside the crates that they are about since a crate
 //! with tests is proved twice.
