@@ -51,20 +51,3 @@ impl Source for SureSource {
         Ok(count)
     }
 }
-
-#[cfg(test)]
-mod tests {
-    use super::*;
-    use std::test::Fail;
-
-    #[test]
-    fn gives_its_bytes_in_pieces(rt: HostRuntime) -> Result<(), Fail> {
-        let mut source = SureSource::new(Seq::from_slice(rt.alloc(), b"abcdefg".as_slice())?);
-        for (room, want) in [(3, "abc"), (0, ""), (3, "def"), (9, "g"), (9, ""), (1, "")] {
-            let mut buf = [0u8; 9];
-            let count = source.read(&mut buf[..room.min(9)])?;
-            assert_eq!(rt; buf.get(..count), Some(want.as_bytes()), "{want}");
-        }
-        Ok(())
-    }
-}

@@ -1,4 +1,4 @@
-// What the tests of the trees write as tables.
+// What the test of the folder tree writes as tables.
 use crate::{Content, Entry, Listing};
 use src_text::{Mem, Seq, Text};
 use std::alloc::Global;
