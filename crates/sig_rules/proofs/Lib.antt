@@ -1,6 +1,7 @@
 pub mod EntryLemmas
 pub mod NameLemmas
 pub mod OrderLemmas
+pub mod PlaceLemmas
 pub mod SortingLemmas
 pub mod TableLemmas
 pub mod TurnLemmas

@@ -10,6 +10,7 @@ use Rattle.sig_rules.specs.declared.sorted.Place.{Place}
 use Rattle.sig_rules.specs.declared.sorted.Sorted.{Sorted}
 use Rattle.sig_rules.specs.Declarations.{Path, same_path, declared_path, entries, full_name, somes}
 use Rattle.sig_rules.specs.Names.{is_known}
+use Rattle.sig_rules.specs.Places.{Finds}
 use Rattle.sig_rules.specs.Sorted.{Sorts, at_place, paths_of, whole}
 use Rattle.sig_rules.proofs.OrderLemmas.{path_equivalence}
 use Rattle.sig_rules.proofs.SortingLemmas.{group_at}
@@ -22,8 +23,8 @@ somes_all (d ∷ ds) = ap (λ xs. d ∷ xs) (somes_all ds)
 pub sorts_view : (s : Sorted) (all : List Declared) → Sorts s all → somes (whole s) ≡ all
 sorts_view s all sorts = ap (λ (xs : List (Option Declared)). somes xs) sorts.placed ∙ somes_all all
 
-pub sorts_itself : (s : Sorted) (all : List Declared) → Sorts s all → Sorts s (somes (whole s))
-sorts_itself s all sorts = subst (Sorts s) (sym (sorts_view s all sorts)) sorts
+pub finds_itself : (s : Sorted) (words : List Path) (all : List Declared) → Sorts s all → words ≡ paths_of s.names → Finds s words (somes (whole s))
+finds_itself s words all sorts same = record { sorts = subst (Sorts s) (sym (sorts_view s all sorts)) sorts; listed = same }
 
 read_placed : (f : Place → Option Declared) (ps : List Place) (ds : List Declared) (i : ℕ) → map f ps ≡ map (λ (d : Declared). Some d) ds → slice_get ds i ≡ option_and_then f (slice_get ps i)
 read_placed f [] [] i same = refl
@@ -37,23 +38,53 @@ pub placed_at : (s : Sorted) (all : List Declared) (i : ℕ) (p : Place) → Sor
 placed_at s all i p sorts there =
     sym (read_placed (at_place s.groups.items s.others) s.places all i sorts.placed ∙ ap (option_and_then (at_place s.groups.items s.others)) there)
 
-known_by : (all : List Declared) (path : Path) (es : List Declared) → entries all path ≡ es → es ≢ [] → is_known all path ≡ true
+-- ---- what is found by its place
+
+-- the name at a place has its words
+at_name : (s : Sorted) (words : List Path) (all : List Declared) (at : ℕ) (path : Path) → Finds s words all → slice_get words at ≡ Some path → slice_get s.names at ≡ Some (full_name path)
+at_name s words all at path finds is =
+    ap (λ (ns : List TypeName). slice_get ns at) finds.sorts.full
+    ∙ slice_get-map full_name (paths_of s.names) at
+    ∙ ap (λ (ps : List Path). option_map full_name (slice_get ps at)) (sym finds.listed)
+    ∙ ap (option_map full_name) is
+
+-- beside it stand its declarations
+pub group_within : (s : Sorted) (words : List Path) (all : List Declared) (at : ℕ) (path : Path) → Finds s words all → slice_get words at ≡ Some path → at < length s.groups.items
+group_within s words all at path finds is =
+    let own = λ (n : TypeName). entries all n.path in
+    rw finds.sorts.grouped (omega (arith, length-map s.names own, slice_get_within s.names at (full_name path) (at_name s words all at path finds is)))
+
+pub group_found : (s : Sorted) (words : List Path) (all : List Declared) (at : ℕ) (path : Path) (group : List Declared) → Finds s words all → slice_get words at ≡ Some path → group ≡ slice_index_or s.groups.items at group → group ≡ entries all path
+group_found s words all at path group finds is read =
+    let own = λ (n : TypeName). entries all n.path in
+    let there = at_name s words all at path finds is in
+    read
+    ∙ get_or_default s.groups.items at group [] (group_within s words all at path finds is)
+    ∙ ap (λ (gs : List (List Declared)). slice_index_or gs at []) finds.sorts.grouped
+    ∙ group_at own s.names at (full_name path) there
+
+-- a name without a place has no declarations
+pub group_none : (s : Sorted) (words : List Path) (all : List Declared) (path : Path) → Finds s words all → list_any (same_path path) words ≡ false → entries all path ≡ []
+group_none s words all path finds missing = finds.sorts.named path (ap (list_any (same_path path)) (sym finds.listed) ∙ missing)
+
+known_by : (all : List Declared) (path : Path) (es : List Declared) → es ≡ entries all path → es ≢ [] → is_known all path ≡ true
 known_by all path [] is some = absurd (some refl)
-known_by all path (e ∷ es) is some = rw is refl
+known_by all path (e ∷ es) is some = rw (← is) refl
+
+unknown_by : (all : List Declared) (path : Path) → entries all path ≡ [] → is_known all path ≡ false
+unknown_by all path is = rw is refl
 
 -- a name that has declarations is known, and is a full name
-pub full_at : (s : Sorted) (all : List Declared) (at : ℕ) (path : Path) (group : List Declared) → Sorts s all → option_map (λ (n : TypeName). n.path) (slice_get s.names at) ≡ Some path → group ≡ slice_index_or s.groups.items at group → group ≢ [] → slice_get s.names at ≡ (if is_known all path then Some (full_name path) else None)
-full_at s all at path group sorts own read some =
-    let words = λ (n : TypeName). n.path in
-    let there : slice_get s.names at ≡ Some (full_name path) =
-    ap (λ (ns : List TypeName). slice_get ns at) sorts.full ∙ slice_get-map full_name (paths_of s.names) at ∙ ap (option_map full_name) (slice_get-map words s.names at ∙ own)
-    in
-    let counting = λ (n : TypeName). entries all n.path in
-    let within : at < length s.groups.items = rw sorts.grouped (omega (arith, length-map s.names counting, slice_get_within s.names at (full_name path) there)) in
-    let in_group : entries all path ≡ group =
-    sym (group_at counting s.names at (full_name path) there) ∙ ap (λ (gs : List (List Declared)). slice_index_or gs at []) (sym sorts.grouped) ∙ sym (read ∙ get_or_default s.groups.items at group [] within)
-    in
-    there ∙ ap (λ b. if b then Some (full_name path) else None) (sym (known_by all path group in_group some))
+pub full_at : (s : Sorted) (words : List Path) (all : List Declared) (at : ℕ) (path : Path) (group : List Declared) → Finds s words all → slice_get words at ≡ Some path → group ≡ slice_index_or s.groups.items at group → group ≢ [] → slice_get s.names at ≡ (if is_known all path then Some (full_name path) else None)
+full_at s words all at path group finds is read some =
+    at_name s words all at path finds is
+    ∙ ap (λ b. if b then Some (full_name path) else None) (sym (known_by all path group (group_found s words all at path group finds is read) some))
+
+-- a name that has none isn't
+pub full_empty : (all : List Declared) (path : Path) → entries all path ≡ [] → None ≡ (if is_known all path then Some (full_name path) else None)
+full_empty all path empty = ap (λ b. if b then Some (full_name path) else None) (sym (unknown_by all path empty))
+
+-- ---- names of declarations
 
 or_true : (a b : Bool) → b ≡ true → (a || b) ≡ true
 or_true true b is = refl

@@ -7,6 +7,8 @@ pub mod Methods
 pub mod Names
 pub mod Types
 pub mod Sorted
+pub mod Places
+pub mod Hashing
 pub mod Limits
 pub mod Worlds
 pub mod Equality

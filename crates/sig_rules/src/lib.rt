@@ -17,6 +17,7 @@ mod method;
 mod names;
 mod naming;
 mod own;
+mod places;
 mod search;
 mod shared;
 mod sort;
@@ -25,6 +26,7 @@ mod sorted_names;
 mod steps;
 mod table;
 mod walk;
+mod words;
 
 pub use files::{Declared, FileTree};
 pub use given::{GivenMethod, GivenVariable, What};

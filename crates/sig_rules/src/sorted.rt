@@ -39,7 +39,8 @@ impl Sorted {
     /// These declarations by their names, which are given.
     pub(crate) fn of(alloc: Global, names: Seq<TypeName>, all: Seq<Declared>) -> Mem<Sorted>
         requires { AreNames all names }
-        ensures { IfOk result (λ sorted. Sorts sorted all) }
+        ensures sorts { IfOk result (λ sorted. Sorts sorted all) }
+        ensures names { IfOk result (λ sorted. sorted.names ≡ names) }
     {
         let mut sorted = Sorted::new(alloc, names)?;
         for declared in all.into_vec() {
@@ -129,9 +130,9 @@ impl Sorted {
 fn empty_groups(alloc: Global, names: &[TypeName]) -> Mem<Vec<Seq<Declared>>>
     ensures { IfOk result (λ groups. groups.items ≡ map (λ (n : TypeName). []) names.now) }
 {
-    let mut groups = Vec::new(alloc);
+    let mut groups = Vec::with_capacity(alloc, names.len())?;
     for _name in names {
-        groups.push(Seq::new(alloc))?;
+        groups.push(Seq::from_vec(Vec::with_capacity(alloc, 1)?))?;
     }
     Ok(groups)
 }

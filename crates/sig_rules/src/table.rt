@@ -4,7 +4,7 @@ ghost use Rattle.sig_rules.specs.Declarations.{declared_in_all, entries, full_na
 ghost use Rattle.sig_rules.specs.Limits.{IsTableFault, most_names, names_count};
 ghost use Rattle.sig_rules.specs.Names.{is_known};
 
-use crate::search::place_of;
+use crate::places::Places;
 use crate::sorted::Sorted;
 use crate::sorted_names::sorted_names;
 use crate::walk::declared;
@@ -19,11 +19,12 @@ const MOST_NAMES: usize = 65_536;
 
 /// All declarations of a project's signature files, of which those of a name are found.
 ///
-/// Contracts see a table as the list of all declarations. A name is searched in as many comparisons as the number of names has binary
-/// digits.
+/// Contracts see a table as the list of all declarations. A name is found by a hash table, in a time that doesn't grow with the number
+/// of names.
 #[derive(Debug, Drop)]
 pub struct Table {
     sorted: Sorted,
+    places: Places,
 }
 
 impl Model for Table {
@@ -38,11 +39,12 @@ impl Model for Table {
     ghost coded = { coded_list the_row.coded };
 
     ghost use Rattle.sig_rules.specs.Declarations.{somes};
-    ghost use Rattle.sig_rules.specs.Sorted.{Sorts, whole};
+    ghost use Rattle.sig_rules.specs.Sorted.{whole};
+    ghost use Rattle.sig_rules.specs.Places.{Finds};
 
     ghost view = { λ t. somes (whole t.sorted) };
 
-    ghost invariant = { λ t. Sorts t.sorted (somes (whole t.sorted)) };
+    ghost invariant = { λ t. Finds t.sorted t.places (somes (whole t.sorted)) };
 }
 
 impl Table {
@@ -58,15 +60,16 @@ impl Table {
         if count > MOST_NAMES {
             return Err(TableFault::Names(count as u64));
         }
+        let places = Places::of(alloc, names.as_slice())?;
         let sorted = Sorted::of(alloc, names, all)?;
-        Ok(Table { sorted })
+        Ok(Table { sorted, places })
     }
 
     /// The declarations of a name that count.
     pub fn entries(&self, name: &TypeName) -> &[Declared]
         ensures { result.now ≡ entries self.now name.now.path }
     {
-        match place_of(self.sorted.names.as_slice(), &[], name.path.as_slice()) {
+        match self.places.find(&[], name.path.as_slice()) {
             None => &[],
             Some(at) => self.sorted.groups[at].as_slice(),
         }
@@ -84,7 +87,7 @@ impl Table {
     pub fn full(&self, front: &[Text], back: &[Text]) -> Option<&TypeName>
         ensures { option_copied result ≡ (if is_known self.now (front.now ++ back.now) then Some (full_name (front.now ++ back.now)) else None) }
     {
-        let at = place_of(self.sorted.names.as_slice(), front, back)?;
+        let at = self.places.find(front, back)?;
         if self.sorted.groups[at].is_empty() {
             None
         } else {

@@ -1,4 +1,5 @@
-ghost use Rattle.std.specs.Prelude.{◌≡◌, [], ◌∷◌, ◌++◌, map, IfOk, OnOk};
+ghost use Rattle.std.specs.Prelude.{◌≡◌, ℕ, List, [], ◌∷◌, ◌++◌, false, map, IfOk, OnOk};
+ghost use Rattle.rbs_tree.specs.declared.names.TypeName.{TypeName};
 ghost use Rattle.std.specs.List.{flat_map};
 ghost use Rattle.sig_rules.specs.Declarations.{FoundMember, declared_in, declared_in_all, found, found_member, full_name, full_path};
 
@@ -68,6 +69,9 @@ fn declare_inner(
 ) -> Mem<()>
     ensures { OnOk result (all.new ≡ all.old ++ flat_map (λ (m : FoundMember). m.all path.now (context.now ++ full_name (full_path context.now name.now) ∷ [])) (map found_member members.now)) }
 {
+    if !has_nested(members) {
+        return Ok(());
+    }
     let inner = inner_context(alloc, context, name)?;
     declare_members(alloc, path, inner.as_slice(), members, all)
 }
@@ -89,6 +93,18 @@ fn declare_members(
         }
     }
     Ok(())
+}
+
+// Whether something is declared in these members. Where nothing is, they add nothing, whatever is around them.
+fn has_nested(members: &[Member]) -> bool
+    ensures { result ≡ false → (path : List ℕ) (context : List TypeName) → flat_map (λ (m : FoundMember). m.all path context) (map found_member members.now) ≡ [] }
+{
+    for member in members {
+        if let Member::Nested(_) = member {
+            return true;
+        }
+    }
+    false
 }
 
 // A declaration as it stands in the list.
