@@ -15,11 +15,16 @@ const CLEAN: &str = "No type error detected.\n";
 const MISSING: &str =
     "lib/a.rb:1:8: [error] Type `::Foo` does not have method `baz` (Ruby::NoMethod)\nDetected 1 problem from 1 file.\n";
 
-// The names of 65,537 classes, and those that the core signatures declare.
+// 65,537 names, and those that the core signatures declare.
 const NAMES: u64 = 65_537 + 27;
 
 // 4,097 methods of a class, and those that its instances have from the core signatures.
 const METHODS: u64 = 4_097 + 31;
+
+// What the names of 16 times 4,096 modules begin with.
+const LETTERS: [&str; 16] = [
+    "A", "B", "C", "D", "E", "F", "G", "H", "I", "J", "K", "L", "M", "N", "O", "P",
+];
 
 fn file(alloc: Global, path: &str, bytes: &[u8]) -> Result<(Text, Seq<u8>), Fail> {
     let bytes = Seq::from_slice(alloc, bytes)?;
@@ -71,6 +76,27 @@ fn ran<R: Threads + Wait + Sync>(
         &OpenGate,
     );
     Ok((outcome, String::from_utf8_lossy(alloc, sink.bytes())?))
+}
+
+// What a check answers and writes of a signature beside a Ruby text that isn't small.
+fn told<R: Threads + Wait + Sync>(
+    rt: &R,
+    alloc: Global,
+    signature: &str,
+) -> Result<(Outcome, String), Fail> {
+    let signature = ("sig/a.rbs", signature.as_bytes());
+    let tree = tree(alloc, ("lib/a.rb", b"("), signature, &[])?;
+    ran(rt, alloc, &["check"], tree, &[])
+}
+
+// A class that begins so, with 4,097 methods.
+fn with_methods(alloc: Global, class: &str) -> Result<String, Fail> {
+    let mut text = String::from_str(alloc, class)?;
+    for i in 0..4_097u32 {
+        text.push_str(format!(in alloc; " def m{i}: () -> A")?.as_str())?;
+    }
+    text.push_str(" end")?;
+    Ok(text)
 }
 
 #[test]
@@ -221,6 +247,13 @@ fn texts_are_checked_and_reported(rt: HostRuntime) -> Result<(), Fail> {
             "",
         ),
         (b"class Foo end class Foo end", b"", unbuilt_signature, ""),
+        (b"class Foo < Object end", b"(", unbuilt_signature, ""),
+        (
+            b"module A[T] def a: (T) -> T end class Foo include A[Integer] alias b a end",
+            b"Foo.new.baz",
+            unbuilt_signature,
+            "",
+        ),
     ];
     for (signature, ruby, outcome, wanted) in rows {
         let tree = tree(alloc, ("lib/a.rb", ruby), ("sig/a.rbs", signature), &[])?;
@@ -318,19 +351,35 @@ fn passed_limits_are_told(rt: HostRuntime) -> Result<(), Fail> {
     for i in 0..65_537u32 {
         classes.push_str(format!(in alloc; "class A{i:x} end ")?.as_str())?;
     }
-    let mut methods = String::from_str(alloc, "class A ")?;
-    for i in 0..4_097u32 {
-        methods.push_str(format!(in alloc; "def m{i}: () -> A ")?.as_str())?;
-    }
-    methods.push_str("end")?;
+    let methods = with_methods(alloc, "class A")?;
     let rows = [
         (classes.as_str(), Limit::Names, NAMES),
         (methods.as_str(), Limit::Methods, METHODS),
     ];
     for (signature, limit, count) in rows {
-        let signature = ("sig/a.rbs", signature.as_bytes());
-        let tree = tree(alloc, ("lib/a.rb", b"("), signature, &[])?;
-        let (answer, written) = ran(&rt, alloc, &["check"], tree, &[])?;
+        let (answer, written) = told(&rt, alloc, signature)?;
+        assert_eq!(rt; answer, Outcome::TooLarge(limit, count));
+        assert_eq!(rt; written.as_str(), "");
+    }
+    Ok(())
+}
+
+#[test]
+fn limits_are_told_before_forms(rt: HostRuntime) -> Result<(), Fail> {
+    let alloc = rt.alloc();
+    let mut modules = String::from_str(alloc, "class A < Object end ")?;
+    for letter in LETTERS {
+        for i in 0..4_096u32 {
+            modules.push_str(format!(in alloc; "module {letter}{i:x} end ")?.as_str())?;
+        }
+    }
+    let methods = with_methods(alloc, "class A < Object")?;
+    let rows = [
+        (modules.as_str(), Limit::Names, NAMES),
+        (methods.as_str(), Limit::Methods, METHODS),
+    ];
+    for (signature, limit, count) in rows {
+        let (answer, written) = told(&rt, alloc, signature)?;
         assert_eq!(rt; answer, Outcome::TooLarge(limit, count));
         assert_eq!(rt; written.as_str(), "");
     }

@@ -1,5 +1,5 @@
 -- The texts of a project, and what they are found to be.
-use Rattle.std.proofs.Common.{◌≡◌, ℕ, List, [], ◌∷◌, sym, ap, ◌∙◌, subst, Option, None, Some, IfSome}
+use Rattle.std.proofs.Common.{◌≡◌, ℕ, true, false, List, [], ◌∷◌, sym, ap, ◌∙◌, subst, Option, None, Some, IfSome}
 use Rattle.std.proofs.lemmas.Option.{none-some, same_Some}
 use Rattle.ports.specs.Tree.{bytes_at}
 use Rattle.diagnostics.specs.declared.diagnostic.Diagnostic.{Diagnostic}
@@ -12,10 +12,11 @@ use Rattle.sig_rules.specs.declared.limits.LimitFault.{LimitFault}
 use Rattle.sig_rules.specs.declared.limits.LimitFault.TheVariants as problem
 use Rattle.sig_rules.specs.Counts.{IsLimitFault}
 use Rattle.definitions.specs.Project.{IsProject}
-use Rattle.steep_run.specs.Signature.{SignatureGives, signature_path, signature_file, Declares, IsWithinLimits}
+use Rattle.steep_run.specs.Small.{is_small}
+use Rattle.steep_run.specs.Signature.{SignatureGives, signature_path, signature_file, IsWithinLimits}
 use Rattle.steep_run.specs.Ruby.{IsRuby, faults_of, ReadsRuby}
 use Rattle.steep_run.specs.Project.{rooted, ruby_path, text_of, project_of, first_too_long}
-use Rattle.steep_run.specs.Report.{HasFaults, HasOtherRuby, Reports}
+use Rattle.steep_run.specs.Report.{HasFaults, HasOtherSignature, HasOtherRuby, Reports}
 use Rattle.steep_run.specs.Reading.{IsChecked, passed, too_much}
 use Rattle.steep_run.specs.declared.check.Verdict.{Verdict}
 use Rattle.steep_run.specs.declared.check.Verdict.TheVariants.{TooManyNames, TooManyMethods}
@@ -47,13 +48,28 @@ pub same_root : (files : Option (List (List ℕ × List ℕ))) (given root : Lis
 same_root files given root old new outcome same reports = subst (λ r. IfSome files (λ known. Reports (project_of r known) old new outcome)) same reports
 
 -- from what was read of the two texts to what they are found to be
-pub both_small : (p : Project) (all : List Declared) (signature ruby : List Diagnostic) → first_too_long p ≡ None → Declares p.signature all signature
-    → IsWithinLimits all → ReadsRuby all p.ruby (Some ruby) → HasFaults p (record { ruby = ruby; signature = signature })
-both_small p all signature ruby sizes declares limits reads =
-    record { all = all; calls = reads.0; sizes = sizes; signature = declares; limits = limits; ruby = reads.1; ruby_faults = sym reads.2 }
+pub both_small : (p : Project) (tree : Tree) (all : List Declared) (signature ruby : List Diagnostic) → first_too_long p ≡ None → SignatureGives p.signature tree signature
+    → IsProject (signature_file tree ∷ []) all → IsWithinLimits all → is_small tree ≡ true → ReadsRuby all p.ruby (Some ruby) → HasFaults p (record { ruby = ruby; signature = signature })
+both_small p tree all signature ruby sizes gives project limits small reads = record {
+  all = all;
+  calls = reads.0;
+  sizes = sizes;
+  signature = record { tree = tree; gives = gives; project = project };
+  limits = limits;
+  small = small;
+  ruby = reads.1;
+  ruby_faults = sym reads.2;
+}
 
-pub other_ruby : (p : Project) (all : List Declared) (signature : List Diagnostic) → Declares p.signature all signature → IsWithinLimits all → ReadsRuby all p.ruby None → HasOtherRuby p
-other_ruby p all signature declares limits none = record { all = all; faults = signature; signature = declares; limits = limits; ruby = none }
+pub other_ruby : (p : Project) (tree : Tree) (all : List Declared) (signature : List Diagnostic) → SignatureGives p.signature tree signature → IsProject (signature_file tree ∷ []) all
+    → IsWithinLimits all → is_small tree ≡ true → ReadsRuby all p.ruby None → HasOtherRuby p
+other_ruby p tree all signature gives project limits small none =
+    record { all = all; faults = signature; signature = record { tree = tree; gives = gives; project = project }; limits = limits; small = small; ruby = none }
+
+pub other_signature : (p : Project) (tree : Tree) (all : List Declared) (signature : List Diagnostic) → SignatureGives p.signature tree signature → IsProject (signature_file tree ∷ []) all
+    → IsWithinLimits all → is_small tree ≡ false → HasOtherSignature p
+other_signature p tree all signature gives project limits other =
+    record { all = all; faults = signature; signature = record { tree = tree; gives = gives; project = project }; limits = limits; other = other }
 
 -- where there is too much to be declared
 passes : (p : Project) (tree : Tree) (faults : List Diagnostic) (limit : Limit) (n : ℕ) (verdict : Verdict) → SignatureGives p.signature tree faults

@@ -5,7 +5,6 @@ use Rattle.std.specs.List.{list_all}
 use Rattle.std.specs.Option.{option_map, option_or}
 use Rattle.std.specs.Io.KnownBytes.{Appends, Keeps}
 use Rattle.diagnostics.specs.declared.diagnostic.Diagnostic.{Diagnostic}
-use Rattle.rbs_grammar.specs.Parse.{Tree}
 use Rattle.sig_rules.specs.declared.files.Declared.{Declared}
 use Rattle.sig_rules.specs.declared.limits.Limit.{Limit}
 use Rattle.sig_rules.specs.declared.limits.Limit.TheVariants.{Names, Methods}
@@ -17,19 +16,16 @@ use Rattle.sig_rules.specs.Declarations.{Path}
 use Rattle.sig_rules.specs.Methods.{method}
 use Rattle.sig_rules.specs.Worlds.{by_name}
 use Rattle.steep_run.specs.Words.{is_digit, same_word, begins, is_ascii_word_byte, is_mark_byte}
-use Rattle.steep_run.specs.Small.{is_small}
-use Rattle.steep_run.specs.Signature.{SignatureGives, HasOtherTree}
 use Rattle.steep_run.specs.Calls.{integers_wanted, is_public, class_made, fits, lacks}
 use Rattle.steep_run.specs.Ruby.{Line, Call, filled, call_line, is_plain_call, call_fits, faults_of, is_mark, fault_at}
 use Rattle.steep_run.specs.Project.{count_of, report}
-use Rattle.steep_run.specs.Report.{HasFaults, PassesLimit, HasOtherRuby, GainsPrefix}
+use Rattle.steep_run.specs.Report.{HasFaults, PassesLimit, HasOtherSignature, HasOtherRuby, GainsPrefix}
 use Rattle.steep_run.specs.declared.faults.Faults.{Faults}
 use Rattle.steep_run.specs.declared.project.Project.{Project}
 use Rattle.steep_run.specs.declared.outcome.Outcome.{Outcome}
 use Rattle.steep_run.specs.declared.outcome.Outcome.TheVariants.{NoMemory, TreeFault, TooLarge, Unbuilt, SinkFault, Found, Clean}
 use Rattle.steep_run.specs.declared.check.Verdict.{Verdict}
-use Rattle.steep_run.specs.declared.check.Verdict.TheVariants.{NoSignature, TooManyNames, TooManyMethods, NoRuby, Checked}
-use Rattle.steep_run.specs.declared.signature.FoundSignature.{FoundSignature}
+use Rattle.steep_run.specs.declared.check.Verdict.TheVariants.{TooManyNames, TooManyMethods, NoSignature, NoRuby, Checked}
 use Rattle.steep_run.specs.declared.ruby.callable.Callable.{Callable}
 use Rattle.steep_run.specs.declared.ruby.callable.Callable.TheVariants.{Private, Plain, Other}
 use Rattle.steep_run.specs.declared.ruby.numbers.Numbers.{Numbers}
@@ -54,17 +50,6 @@ IsNoted old new word true =
 abbrev pub IsNotedIfAny : {V : Type 0} → List (List ℕ × V) → List (List ℕ × V) → Option (List ℕ) → Bool → Type 0
 IsNotedIfAny old new None is_new = (is_new ≡ true) × (new ≡ old)
 IsNotedIfAny old new (Some word) is_new = IsNoted old new word is_new
-
--- ---- signatures
-
--- what a small tree gives, and none where it isn't small
-abbrev pub small_gift : Tree → Option FoundSignature
-small_gift tree = if is_small tree then Some (record { tree = tree; faults = [] }) else None
-
--- what a reader of signatures answers: what the text gives, or none where it gives nothing
-abbrev pub ReadsSignature : List ℕ → Option FoundSignature → Type 0
-ReadsSignature text None = HasOtherTree text
-ReadsSignature text (Some found) = SignatureGives text found.tree found.faults
 
 -- ---- calls
 
@@ -183,9 +168,9 @@ too_much problem.NoMemory = None
 
 -- what the texts of a project are found to be
 abbrev pub IsChecked : Project → Verdict → Type 0
-IsChecked p NoSignature = HasOtherTree p.signature
 IsChecked p (TooManyNames n) = PassesLimit p Names n
 IsChecked p (TooManyMethods n) = PassesLimit p Methods n
+IsChecked p NoSignature = HasOtherSignature p
 IsChecked p NoRuby = HasOtherRuby p
 IsChecked p (Checked faults) = HasFaults p faults
 

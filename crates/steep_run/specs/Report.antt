@@ -1,5 +1,5 @@
 -- What each answer of a check says.
-use Rattle.std.specs.Prelude.{◌≡◌, ℕ, ◌<◌, ◌⊎◌, Bool, false, List, [], ◌∷◌, take, codes, Option, None, Some}
+use Rattle.std.specs.Prelude.{◌≡◌, ℕ, ◌<◌, ◌⊎◌, Bool, true, false, List, [], ◌∷◌, take, codes, Option, None, Some}
 use Rattle.std.specs.Fmt.{decimal}
 use Rattle.std.specs.Io.KnownBytes.{Appends, Keeps}
 use Rattle.ports.specs.Causes.{Rose}
@@ -11,10 +11,11 @@ use Rattle.sig_rules.specs.declared.limits.Limit.{Limit}
 use Rattle.sig_rules.specs.declared.limits.Limit.TheVariants.{File, Files, Total, Names, Methods}
 use Rattle.sig_rules.specs.declared.limits.LimitFault.TheVariants as problem
 use Rattle.sig_rules.specs.Counts.{IsLimitFault}
+use Rattle.steep_run.specs.Small.{is_small}
 use Rattle.steep_run.specs.Words.{same_word}
 use Rattle.steep_run.specs.Project.{first_too_long, count_of, report}
 use Rattle.definitions.specs.Project.{IsProject}
-use Rattle.steep_run.specs.Signature.{SignatureGives, HasOtherTree, signature_file, Declares, IsWithinLimits}
+use Rattle.steep_run.specs.Signature.{SignatureGives, signature_file, Declares, IsWithinLimits}
 use Rattle.steep_run.specs.Ruby.{Call, IsRuby, faults_of}
 use Rattle.steep_run.specs.declared.faults.Faults.{Faults}
 use Rattle.steep_run.specs.declared.project.Project.{Project}
@@ -22,14 +23,15 @@ use Rattle.steep_run.specs.declared.outcome.Outcome.{Outcome}
 use Rattle.steep_run.specs.declared.outcome.Outcome.TheVariants.{NoMemory, TreeFault, TooLarge, Unbuilt, SinkFault, Found, Clean}
 use Rattle.steep_run.specs.declared.outcome.Part.TheVariants.{Words, Signature, Ruby}
 
--- No text of the project is too long, its signatures declare no more than they may, its Ruby text is small over what they declare, and
--- these are the faults of the two texts, in the order of each.
+-- No text of the project is too long, its signatures declare no more than they may, what its signature gives is small (a refused one gives
+-- no declarations), its Ruby text is small over what they declare, and these are the faults of the two texts, in the order of each.
 pub record HasFaults (p : Project) (faults : Faults) : Type 0 where
   pub all : List Declared
   pub calls : List Call
   pub sizes : first_too_long p ≡ None
   pub signature : Declares p.signature all faults.signature
   pub limits : IsWithinLimits all
+  pub small : is_small signature.tree ≡ true
   pub ruby : IsRuby all p.ruby calls
   pub ruby_faults : faults.ruby ≡ faults_of all calls
 
@@ -41,12 +43,21 @@ pub record PassesLimit (p : Project) (limit : Limit) (n : ℕ) : Type 0 where
   pub gives : SignatureGives p.signature tree faults
   pub passed : (all : List Declared) → IsProject (signature_file tree ∷ []) all → IsLimitFault all (problem.Limit limit n)
 
--- The Ruby text isn't small over what the signatures declare, which is no more than they may.
+-- The signatures declare no more than they may, and the signature has a tree that isn't small.
+pub record HasOtherSignature (p : Project) : Type 0 where
+  pub all : List Declared
+  pub faults : List Diagnostic
+  pub signature : Declares p.signature all faults
+  pub limits : IsWithinLimits all
+  pub other : is_small signature.tree ≡ false
+
+-- The signatures declare no more than they may, what the signature gives is small, and the Ruby text isn't small over what they declare.
 pub record HasOtherRuby (p : Project) : Type 0 where
   pub all : List Declared
   pub faults : List Diagnostic
   pub signature : Declares p.signature all faults
   pub limits : IsWithinLimits all
+  pub small : is_small signature.tree ≡ true
   pub ruby : (calls : List Call) → ¬ IsRuby all p.ruby calls
 
 -- known bytes grew by a part of these, from their front
@@ -66,7 +77,7 @@ Reports p old new (TooLarge Methods n) = Keeps old new × (first_too_long p ≡ 
 Reports p old new (TooLarge Files n) = ⊥
 Reports p old new (TooLarge Total n) = ⊥
 Reports p old new (Unbuilt Words) = Keeps old new
-Reports p old new (Unbuilt Signature) = Keeps old new × (first_too_long p ≡ None) × HasOtherTree p.signature
+Reports p old new (Unbuilt Signature) = Keeps old new × (first_too_long p ≡ None) × HasOtherSignature p
 Reports p old new (Unbuilt Ruby) = Keeps old new × (first_too_long p ≡ None) × HasOtherRuby p
 
 -- an answer that writes no report leaves the sink as it was, whatever the tree tells of its files

@@ -1,5 +1,5 @@
--- What a signature text gives: the declarations of its small tree, or one diagnostic where it is refused; and what is declared then.
-use Rattle.std.specs.Prelude.{◌≡◌, ℕ, ◌≤◌, true, false, IsTrue, List, [], ◌∷◌, codes, Ok, Err}
+-- What a signature text gives: the declarations of its tree, or one diagnostic where it is refused; and what is declared then.
+use Rattle.std.specs.Prelude.{◌≡◌, ℕ, ◌≤◌, true, List, [], ◌∷◌, codes, Ok, Err}
 use Rattle.src_text.specs.declared.span.Span.{Span}
 use Rattle.diagnostics.specs.declared.code.Code.TheVariants.{RbsSyntaxError}
 use Rattle.diagnostics.specs.declared.diagnostic.Diagnostic.{Diagnostic}
@@ -15,7 +15,6 @@ use Rattle.sig_rules.specs.Limits.{names_count, most_names}
 use Rattle.sig_rules.specs.Lines.{is_self_type}
 use Rattle.sig_rules.specs.Types.{sort}
 use Rattle.definitions.specs.Project.{IsProject}
-use Rattle.steep_run.specs.Small.{is_small}
 
 -- ---- the text
 
@@ -28,15 +27,11 @@ refusal_text deep = codes "Nesting is deeper than 128"
 abbrev pub refusal_at : Fault → Span → Diagnostic
 refusal_at fault span = record { span = span; code = RbsSyntaxError; message = refusal_text fault; severity = 1 }
 
--- What a text gives: the declarations of its tree, and its diagnostics. A text with a small tree gives this tree, and has no diagnostic.
--- A text that is refused gives no declarations, and has one. A text with any other tree gives nothing.
+-- What a text gives: the declarations of its tree, and its diagnostics. A text with a tree gives this tree, and has no diagnostic. A text
+-- that is refused gives no declarations, and has one.
 pub data SignatureGives (text : List ℕ) (tree : Tree) (faults : List Diagnostic) : Type 0 where
-  small : IsAnswer text (Ok tree) → IsTrue (is_small tree) → faults ≡ [] → SignatureGives text tree faults
+  whole : IsAnswer text (Ok tree) → faults ≡ [] → SignatureGives text tree faults
   refusal : (fault : Fault) (span : Span) → IsAnswer text (Err (fault, span)) → tree ≡ [] → faults ≡ refusal_at fault span ∷ [] → SignatureGives text tree faults
-
--- The text has a tree that isn't small.
-abbrev pub HasOtherTree : List ℕ → Type 0
-HasOtherTree text = (tree : Tree) × IsAnswer text (Ok tree) × (is_small tree ≡ false)
 
 -- ---- what is declared
 

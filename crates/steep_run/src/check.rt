@@ -1,11 +1,12 @@
-ghost use Rattle.std.specs.Prelude.{◌≡◌, ◌⊎◌, ◌≤◌, ◌<◌, ◌^◌, ◌↔◌, IfSome, IfOk, Some, None, map, string_bytes, length, codes, false};
+ghost use Rattle.std.specs.Prelude.{◌≡◌, ◌⊎◌, ◌≤◌, ◌<◌, ◌^◌, ◌↔◌, IfSome, IfOk, Some, None, [], ◌∷◌, map, string_bytes, length, codes, false};
 ghost use Rattle.steep_run.specs.declared.faults.Faults.{Faults};
 ghost use Rattle.steep_run.specs.declared.project.Project.{Project};
 ghost use Rattle.ports.specs.Causes.{Rose};
 ghost use Rattle.steep_run.specs.Project.{project_of, first_too_long, count_of};
 ghost use Rattle.steep_run.specs.Report.{Reports, HasFaults, IsSilent, is_check, HasCauses};
 ghost use Rattle.steep_run.specs.Reading.{IsChecked, Writes, passed, too_much};
-ghost use Rattle.steep_run.specs.Signature.{SignatureGives, Declares, IsWithinLimits};
+ghost use Rattle.steep_run.specs.Signature.{SignatureGives, signature_file, IsWithinLimits};
+ghost use Rattle.definitions.specs.Project.{IsProject};
 
 use crate::faults::Faults;
 use crate::outcome::{Outcome, Part};
@@ -14,10 +15,12 @@ use crate::project::{Project, SIGNATURE, first_too_long, read_project};
 use crate::report::report_text;
 use crate::ruby::faults;
 use crate::signature::{FoundSignature, read_signature};
+use crate::small::is_small;
 use crate::writing::write_all;
 use definitions::FreshTable;
 use diagnostics::Diagnostic;
 use ports::{Gate, Sink, Source, Tree, TreeFault};
+use rbs_tree::Decl;
 use sig_rules::{FileTree, Limit, LimitFault, Members};
 use src_text::{Mem, NoMemory, Seq, Text};
 use std::alloc::Global;
@@ -96,9 +99,9 @@ fn report_to<K: Sink>(alloc: Global, sink: &mut K, project: &Project) -> Outcome
         return Outcome::TooLarge(Limit::File, length);
     }
     match checked(alloc, project) {
-        Ok(Verdict::NoSignature) => Outcome::Unbuilt(Part::Signature),
         Ok(Verdict::TooManyNames(count)) => Outcome::TooLarge(Limit::Names, count),
         Ok(Verdict::TooManyMethods(count)) => Outcome::TooLarge(Limit::Methods, count),
+        Ok(Verdict::NoSignature) => Outcome::Unbuilt(Part::Signature),
         Ok(Verdict::NoRuby) => Outcome::Unbuilt(Part::Ruby),
         Ok(Verdict::Checked(faults)) => write_report(alloc, sink, project, &faults),
         Err(_) => Outcome::NoMemory,
@@ -108,12 +111,12 @@ fn report_to<K: Sink>(alloc: Global, sink: &mut K, project: &Project) -> Outcome
 /// What the texts of a project are found to be.
 #[derive(Debug, Drop)]
 pub enum Verdict {
-    /// The signature has a tree that isn't small.
-    NoSignature,
     /// So many names are declared, and they are too many.
     TooManyNames(u64),
     /// Some definition has so many methods, and they are too many.
     TooManyMethods(u64),
+    /// Neither is so, and the signature has a tree that isn't small.
+    NoSignature,
     /// None of these is so, and the Ruby text isn't small.
     NoRuby,
     /// Both texts are checked, with these faults.
@@ -124,10 +127,8 @@ fn checked(alloc: Global, project: &Project) -> Mem<Verdict>
     requires { first_too_long project.now ≡ None }
     ensures { IfOk result (IsChecked project.now) }
 {
-    match read_signature(alloc, project.signature.as_str())? {
-        Some(found) => checked_over(alloc, project, found),
-        None => Ok(Verdict::NoSignature),
-    }
+    let found = read_signature(alloc, project.signature.as_str())?;
+    checked_over(alloc, project, found)
 }
 
 // What the texts are found to be, by what the signature gives.
@@ -141,7 +142,7 @@ fn checked_over(alloc: Global, project: &Project, found: FoundSignature) -> Mem<
         decls: found.tree,
     };
     match FreshTable::new(alloc, slice::from_ref(&file)) {
-        Ok(table) => judged(alloc, project, &table, found.faults),
+        Ok(table) => judged(alloc, project, &table, file.decls.as_slice(), found.faults),
         Err(fault) => too_much(fault),
     }
 }
@@ -167,18 +168,23 @@ fn passed(limit: Limit, count: u64) -> Mem<Verdict>
     }
 }
 
-// What the texts are found to be, by what is declared.
+// What the texts are found to be, by the signature's declarations and by all that is declared, which is no more than may be.
 fn judged<M: Members>(
     alloc: Global,
     project: &Project,
     members: &M,
+    decls: &[Decl],
     signature: Seq<Diagnostic>,
 ) -> Mem<Verdict>
     requires sizes { first_too_long project.now ≡ None }
-    requires declares { Declares project.now.signature (M.all members.now) signature }
+    requires gives { SignatureGives project.now.signature decls.now signature }
+    requires declares { IsProject (signature_file decls.now ∷ []) (M.all members.now) }
     requires limits { IsWithinLimits (M.all members.now) }
     ensures { IfOk result (IsChecked project.now) }
 {
+    if !is_small(alloc, decls)? {
+        return Ok(Verdict::NoSignature);
+    }
     match faults(alloc, members, project.ruby.as_str())? {
         Some(ruby) => Ok(Verdict::Checked(Faults { ruby, signature })),
         None => Ok(Verdict::NoRuby),

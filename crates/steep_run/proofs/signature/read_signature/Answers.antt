@@ -1,11 +1,8 @@
 use Rattle.std.proofs.Common.{subst, Err}
 use Rattle.rbs_grammar.specs.Grammar.{syntax, deep}
 use Rattle.rbs_parser.specs.Answers.{IsFound}
-use Rattle.steep_run.proofs.SignatureLemmas.{if_ok, tree_gives, refusal_gives}
+use Rattle.steep_run.proofs.SignatureLemmas.{if_ok, refusal_gives}
 use Rattle.steep_run.proofs.signature.read_signature.Goals as goal
-
-pub returns-in-Ok : goal.returns-in-Ok
-returns-in-Ok c = if_ok c.of_tree.result c.of_tree.ensures (λ found is. tree_gives c.args.text.now _ found c.in-Ok.ensures.answers is)
 
 pub returns-in-Err-Syntax : goal.returns-in-Err-Syntax
 returns-in-Err-Syntax c =
