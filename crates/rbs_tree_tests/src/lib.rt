@@ -1,6 +1,6 @@
-//! Tests of the trees of signatures: what is copied, compared and substituted, in each kind of nesting.
+//! Tests of the trees of signatures: that memory suffices to copy declarations and types of each kind, and to put types into them.
 //!
-//! They stand beside `rbs_tree` since a crate with tests is proved twice.
+//! What a copy is, and what is put where, is proved; the trees are those of texts.
 #![tactic(auto)]
 
 #[cfg(test)]
