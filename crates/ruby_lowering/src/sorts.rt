@@ -1,0 +1,135 @@
+//! The subjects into which the names of nodes fall.
+
+ghost use Rattle.std.specs.Prelude.{◌≡◌};
+ghost use Rattle.ruby_lowering.specs.Sorts as spec;
+
+use ruby_exprs::Label;
+
+/// What a node is about.
+#[derive(Clone, Copy)]
+pub(crate) enum Sort {
+    /// Nodes, items or parameters beside each other.
+    List,
+    /// Strings and what has parts like them.
+    Text,
+    /// Values with operators between them.
+    Operators,
+    /// Other expressions of several values.
+    Expression,
+    Call,
+    /// What its tokens alone tell.
+    Tokens,
+    Item,
+    Parameter,
+    /// What a keyword opens.
+    Form,
+    /// A part of a form, and statements.
+    Part,
+}
+
+/// The subject of a node.
+pub(crate) fn sort_of(label: Label) -> Sort
+    ensures { result ≡ spec.sort_of label }
+{
+    match label {
+        Label::Stmts => Sort::List,
+        Label::Values => Sort::List,
+        Label::Classes => Sort::List,
+        Label::Args => Sort::List,
+        Label::Cargs => Sort::List,
+        Label::Items => Sort::List,
+        Label::Params => Sort::List,
+        Label::ReturnForm => Sort::List,
+        Label::Str => Sort::Text,
+        Label::Strs => Sort::Text,
+        Label::Dsym => Sort::Text,
+        Label::Regexp => Sort::Text,
+        Label::Heredoc => Sort::Text,
+        Label::Expr => Sort::Operators,
+        Label::OrForm => Sort::Operators,
+        Label::AndForm => Sort::Operators,
+        Label::Eq => Sort::Operators,
+        Label::Cmp => Sort::Operators,
+        Label::Bor => Sort::Operators,
+        Label::Band => Sort::Operators,
+        Label::Shf => Sort::Operators,
+        Label::Add => Sort::Operators,
+        Label::Mul => Sort::Operators,
+        Label::Pow => Sort::Operators,
+        Label::NotForm => Sort::Expression,
+        Label::Minus => Sort::Expression,
+        Label::Unary => Sort::Expression,
+        Label::DefinedForm => Sort::Expression,
+        Label::Tern => Sort::Expression,
+        Label::Range => Sort::Expression,
+        Label::Beginless => Sort::Expression,
+        Label::Asgn => Sort::Expression,
+        Label::Opasgn => Sort::Expression,
+        Label::Masgn => Sort::Expression,
+        Label::Post => Sort::Call,
+        Label::CallLink => Sort::Call,
+        Label::NameLink => Sort::Call,
+        Label::CallOfCall => Sort::Call,
+        Label::ConstLink => Sort::Call,
+        Label::Index => Sort::Call,
+        Label::Call => Sort::Call,
+        Label::ConstCall => Sort::Call,
+        Label::Command => Sort::Call,
+        Label::YieldForm => Sort::Call,
+        Label::Int => Sort::Tokens,
+        Label::Sym => Sort::Tokens,
+        Label::Words => Sort::Tokens,
+        Label::Word => Sort::Tokens,
+        Label::Variable => Sort::Tokens,
+        Label::TopConst => Sort::Tokens,
+        Label::Const => Sort::Tokens,
+        Label::Name => Sort::Tokens,
+        Label::NameOf => Sort::Tokens,
+        Label::NameSet => Sort::Tokens,
+        Label::SymbolName => Sort::Tokens,
+        Label::Cpath => Sort::Tokens,
+        Label::Mlhs => Sort::Tokens,
+        Label::Splat => Sort::Item,
+        Label::DoubleSplat => Sort::Item,
+        Label::BlockPass => Sort::Item,
+        Label::LabelItem => Sort::Item,
+        Label::Pair => Sort::Item,
+        Label::Pargs => Sort::Item,
+        Label::Array => Sort::Item,
+        Label::Hash => Sort::Item,
+        Label::Opt => Sort::Parameter,
+        Label::Req => Sort::Parameter,
+        Label::Rest => Sort::Parameter,
+        Label::Key => Sort::Parameter,
+        Label::Keyrest => Sort::Parameter,
+        Label::Blockarg => Sort::Parameter,
+        Label::Group => Sort::Parameter,
+        Label::IfForm => Sort::Form,
+        Label::CaseForm => Sort::Form,
+        Label::WhileForm => Sort::Form,
+        Label::BeginForm => Sort::Form,
+        Label::Lambda => Sort::Form,
+        Label::Block => Sort::Form,
+        Label::ShortDef => Sort::Form,
+        Label::DefForm => Sort::Form,
+        Label::SingletonClass => Sort::Form,
+        Label::ClassForm => Sort::Form,
+        Label::ModuleForm => Sort::Form,
+        Label::AliasForm => Sort::Form,
+        Label::ElseForm => Sort::Part,
+        Label::Body => Sort::Part,
+        Label::RescueForm => Sort::Part,
+        Label::EnsureForm => Sort::Part,
+        Label::SelfForm => Sort::Part,
+        Label::Code => Sort::Part,
+        Label::GroupOf => Sort::Part,
+        Label::ElsifForm => Sort::Part,
+        Label::Subject => Sort::Part,
+        Label::WhenForm => Sort::Part,
+        Label::Superclass => Sort::Part,
+        Label::EndForm => Sort::Part,
+        Label::Program => Sort::Part,
+        Label::Stmt => Sort::Part,
+        Label::Modifier => Sort::Part,
+    }
+}
