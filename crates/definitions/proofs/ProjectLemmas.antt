@@ -21,5 +21,5 @@ pub only_project : (files : List FileTree) (a b : List Declared) → IsProject f
 only_project files a b one other = one.2 ∙ ap (λ (t : Tree). declared_in_all (core_file t ∷ files)) (only_tree one.0 other.0 one.1 other.1) ∙ sym other.2
 
 -- what the files behind the core signatures declare
-pub is_project : (files whole : List FileTree) (tree : Tree) (all : List Declared) → HasTree core tree → whole ≡ core_file tree ∷ files → all ≡ declared_in_all whole → IsProject files all
-is_project files whole tree all has is same = (tree, has, same ∙ ap (λ (fs : List FileTree). declared_in_all fs) is)
+pub is_project : (files : List FileTree) (tree : Tree) (declared all : List Declared) → HasTree core tree → declared ≡ declared_in_all (core_file tree ∷ files) → all ≡ declared → IsProject files all
+is_project files tree declared all has is same = (tree, has, same ∙ is)

@@ -2,14 +2,15 @@ ghost use Rattle.std.specs.Prelude.{◌≡◌, ◌≤◌, List, slice_get, IfOk,
 ghost use Rattle.std.specs.Option.{option_copied, option_map};
 ghost use Rattle.sig_rules.specs.declared.files.Declared.{Declared};
 ghost use Rattle.sig_rules.specs.Counts.{IsLimitFault};
-ghost use Rattle.sig_rules.specs.Declarations.{declared_in_all, entries, full_name};
+ghost use Rattle.sig_rules.specs.Declarations.{entries, full_name};
 ghost use Rattle.sig_rules.specs.Limits.{most_names, names_count};
 ghost use Rattle.sig_rules.specs.Names.{resolve};
 ghost use Rattle.definitions.specs.Project.{IsProject};
 
-use crate::core_tree::{behind_core, core_tree};
+use crate::core_tree::{core_tree, declared_behind_core};
 use rbs_tree::TypeName;
 use sig_rules::{Declared, FileTree, Limit, LimitFault, Names, Table, TableFault};
+use src_text::Seq;
 use std::alloc::Global;
 use std::marker::Model;
 
@@ -43,17 +44,17 @@ impl NamedTable {
         ensures few { IfOk result (λ all. names_count all ≤ most_names) }
         ensures fault { IfErr result (λ fault. (all : List Declared) → IsProject files.now all → IsLimitFault all fault) }
     {
-        let whole = behind_core(alloc, core_tree(alloc)?, files)?;
-        NamedTable::of(alloc, whole.as_slice())
+        let all = declared_behind_core(alloc, core_tree(alloc)?, files)?;
+        NamedTable::of(alloc, all)
     }
 
-    // The names of these files.
-    fn of(alloc: Global, files: &[FileTree]) -> Result<NamedTable, LimitFault>
-        ensures all { IfOk result (λ all. all ≡ declared_in_all files.now) }
+    // The names of these declarations.
+    fn of(alloc: Global, all: Seq<Declared>) -> Result<NamedTable, LimitFault>
+        ensures all { IfOk result (λ table. table ≡ all) }
         ensures few { IfOk result (λ all. names_count all ≤ most_names) }
-        ensures fault { IfErr result (IsLimitFault (declared_in_all files.now)) }
+        ensures fault { IfErr result (IsLimitFault all) }
     {
-        match Table::new(alloc, files) {
+        match Table::of(alloc, all) {
             Ok(table) => Ok(NamedTable { table }),
             Err(TableFault::Names(count)) => Err(LimitFault::Limit(Limit::Names, count)),
             Err(TableFault::NoMemory) => Err(LimitFault::NoMemory),

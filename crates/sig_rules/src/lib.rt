@@ -42,4 +42,4 @@ pub use shared::Shared;
 pub use sort::Sort;
 pub use steps::Steps;
 pub use table::Table;
-pub use walk::declared;
+pub use walk::{declare_file, declare_files, declared};

@@ -10,7 +10,7 @@ use crate::sorted_names::sorted_names;
 use crate::walk::declared;
 use crate::{Declared, FileTree, TableFault};
 use rbs_tree::TypeName;
-use src_text::Text;
+use src_text::{Seq, Text};
 use std::alloc::Global;
 use std::marker::Model;
 
@@ -55,6 +55,15 @@ impl Table {
         ensures fault { IfErr result (IsTableFault (declared_in_all files.now)) }
     {
         let all = declared(alloc, files)?;
+        Table::of(alloc, all)
+    }
+
+    /// The table of these declarations, unless more than 65,536 names are declared.
+    pub fn of(alloc: Global, all: Seq<Declared>) -> Result<Table, TableFault>
+        ensures all { IfOk result (λ table. table ≡ all) }
+        ensures few { OnOk result (names_count all ≤ most_names) }
+        ensures fault { IfErr result (IsTableFault all) }
+    {
         let names = sorted_names(alloc, all.as_slice())?;
         let count = names.len();
         if count > MOST_NAMES {

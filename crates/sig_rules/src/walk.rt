@@ -15,14 +15,22 @@ pub fn declared(alloc: Global, files: &[FileTree]) -> Mem<Seq<Declared>>
     ensures { IfOk result (λ all. all ≡ declared_in_all files.now) }
 {
     let mut all = Seq::new(alloc);
-    for file in files {
-        declare_file(alloc, file, &mut all)?;
-    }
+    declare_files(alloc, files, &mut all)?;
     Ok(all)
 }
 
-// Puts the declarations of a file at the end.
-fn declare_file(alloc: Global, file: &FileTree, all: &mut Seq<Declared>) -> Mem<()>
+/// Puts all declarations of these files at the end, in order.
+pub fn declare_files(alloc: Global, files: &[FileTree], all: &mut Seq<Declared>) -> Mem<()>
+    ensures { OnOk result (all.new ≡ all.old ++ declared_in_all files.now) }
+{
+    for file in files {
+        declare_file(alloc, file, all)?;
+    }
+    Ok(())
+}
+
+/// Puts all declarations of a file at the end, in order.
+pub fn declare_file(alloc: Global, file: &FileTree, all: &mut Seq<Declared>) -> Mem<()>
     ensures { OnOk result (all.new ≡ all.old ++ declared_in file.now) }
 {
     for decl in file.decls.as_slice() {
