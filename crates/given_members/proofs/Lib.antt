@@ -1,4 +1,5 @@
 pub mod AttributeLemmas
 pub mod GivenLemmas
+pub mod GivingLemmas
 pub mod ScopeLemmas
 pub mod VariableLemmas

@@ -5,11 +5,13 @@
 #![tactic(auto)]
 
 mod attributes;
+mod giving;
 mod methods;
 mod overloads;
 mod scope;
 mod variables;
 mod visibility;
 
+pub use giving::{may_give_methods, may_give_variables};
 pub use methods::given_methods;
 pub use variables::given_variables;

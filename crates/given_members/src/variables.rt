@@ -173,8 +173,8 @@ fn put_variable<N: Names>(
     variables.push(GivenVariable { name, ty })
 }
 
-// Whether a variable of a scope is one of this kind.
-fn is_seen(kind: Kind, scope: VarScope) -> bool
+/// Whether a variable of a scope is one of this kind.
+pub(crate) fn is_seen(kind: Kind, scope: VarScope) -> bool
     ensures { result ≡ is_seen kind scope }
 {
     match scope {

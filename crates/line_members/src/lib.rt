@@ -9,6 +9,7 @@ mod applied;
 mod definition;
 mod entries;
 mod few;
+mod given;
 mod making;
 mod methods;
 mod new_made;

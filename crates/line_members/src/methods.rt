@@ -10,10 +10,9 @@ ghost use Rattle.sig_rules.specs.Worlds.{by_name};
 ghost use Rattle.method_steps.specs.Steps.{declared_from};
 ghost use Rattle.line_members.specs.Along.{AddsMade, HasGiven, IsListed, IsTaken, named_new};
 
-use crate::applied::applied_of;
 use crate::entries::{Methods, joined, method_named, without};
 use crate::few::{NameSet, copies_of, given_names, wanted_names};
-use given_members::given_methods;
+use crate::given::methods_at;
 use method_steps::{Making, NameTable, methods_from};
 use sig_rules::{GivenMethod, Method, Names, Shared, Step};
 use src_text::{Mem, Seq, Text};
@@ -54,8 +53,7 @@ fn one_more<N: Names, M: Making>(
     match steps {
         [] => Ok(behind),
         [step, ..] => {
-            let applied = applied_of(alloc, names, step.get())?;
-            let given = given_methods(alloc, names, &applied, step.get().kind)?;
+            let given = methods_at(alloc, names, step.get())?;
             with_given(alloc, making, steps, behind, given)
         }
     }

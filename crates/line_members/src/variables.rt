@@ -6,9 +6,8 @@ ghost use Rattle.sig_rules.specs.Methods.{first_variable, same_word, variable_al
 ghost use Rattle.sig_rules.specs.Worlds.{by_name};
 ghost use Rattle.line_members.specs.Along.{IsListed, or_behind};
 
-use crate::applied::applied_of;
 use crate::entries::{joined, shared_each, without};
-use given_members::given_variables;
+use crate::given::variables_at;
 use method_steps::NameTable;
 use rbs_tree::Ty;
 use sig_rules::{GivenVariable, Names, Shared, Step};
@@ -51,8 +50,7 @@ fn one_more<N: Names>(
     match steps {
         [] => Ok(behind),
         [step, ..] => {
-            let applied = applied_of(alloc, names, step.get())?;
-            let given = given_variables(alloc, names, &applied, step.get().kind)?;
+            let given = variables_at(alloc, names, step.get())?;
             with_given(alloc, given, behind)
         }
     }

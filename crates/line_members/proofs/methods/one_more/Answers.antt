@@ -1,5 +1,4 @@
 use Rattle.std.proofs.Common.{◌≡◌, ◌∙◌, ap}
-use Rattle.sig_rules.specs.declared.line.Applied.{Applied}
 use Rattle.sig_rules.specs.declared.line.Step.{Step}
 use Rattle.sig_rules.specs.Given.{given_methods}
 use Rattle.sig_rules.specs.Methods.{applied_of}
@@ -10,8 +9,5 @@ pub returns-in_ok-given-in-len1-up : goal.returns-in_ok-given-in-len1-up
 returns-in_ok-given-in-len1-up g c step rest is listed =
     let first : c.step-item.result ≡ step = is_first _ _ _ _ is c.step-item.is in
     if_ok _ (λ methods from. one_more (g.N.Names.all c.args.names.now) _ step rest _ methods _
-    (c.in_ok-given-in-len1-up.ensures
-    ∙ ap (λ (a : Applied). given_methods (g.N.Names.all c.args.names.now) a c.get-in-len1-up.result.now.kind) (c.in_ok-applied-in-len1-up.ensures ∙ ap (λ (s : Step). applied_of (g.N.Names.all c.args.names.now) s) c.get.ensures)
-    ∙ ap (λ (s : Step). given_methods (g.N.Names.all c.args.names.now) (applied_of (g.N.Names.all c.args.names.now) c.step-item.result) s.kind) c.get-in-len1-up.ensures
-    ∙ ap (λ (s : Step). given_methods (g.N.Names.all c.args.names.now) (applied_of (g.N.Names.all c.args.names.now) s) s.kind) first)
+    (c.in_ok-given-in-len1-up.ensures ∙ ap (λ (s : Step). given_methods (g.N.Names.all c.args.names.now) (applied_of (g.N.Names.all c.args.names.now) s) s.kind) (c.get.ensures ∙ first))
     listed from) (c.with_given.ensures step rest is listed.once)
