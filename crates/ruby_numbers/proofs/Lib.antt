@@ -1,0 +1,4 @@
+mod EachOnce
+mod InOrder
+mod ProgramLaws
+mod RowLemmas
