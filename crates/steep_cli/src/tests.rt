@@ -78,14 +78,14 @@ fn ran<R: Threads + Wait + Sync>(
     Ok((outcome, String::from_utf8_lossy(alloc, sink.bytes())?))
 }
 
-// What a check answers and writes of a signature beside a Ruby text that isn't small.
+// What a check answers and writes of a signature beside a Ruby program that isn't small.
 fn told<R: Threads + Wait + Sync>(
     rt: &R,
     alloc: Global,
     signature: &str,
 ) -> Result<(Outcome, String), Fail> {
     let signature = ("sig/a.rbs", signature.as_bytes());
-    let tree = tree(alloc, ("lib/a.rb", b"("), signature, &[])?;
+    let tree = tree(alloc, ("lib/a.rb", b"x = 1"), signature, &[])?;
     ran(rt, alloc, &["check"], tree, &[])
 }
 
@@ -136,10 +136,31 @@ fn texts_are_checked_and_reported(rt: HostRuntime) -> Result<(), Fail> {
         (FOO.as_bytes(), b"Foo.new.bar(1, 2)", unbuilt_ruby, ""),
         (FOO.as_bytes(), b"Foo.new.bar(\"a\")", unbuilt_ruby, ""),
         (FOO.as_bytes(), b"Foo.new.class", unbuilt_ruby, ""),
-        (FOO.as_bytes(), b"Foo.new.?", unbuilt_ruby, ""),
-        (FOO.as_bytes(), b" Foo.new.baz", unbuilt_ruby, ""),
+        (FOO.as_bytes(), b"x = 1", unbuilt_ruby, ""),
+        (FOO.as_bytes(), b"(Foo.new.baz)", unbuilt_ruby, ""),
+        (FOO.as_bytes(), b"::Foo.new.baz", unbuilt_ruby, ""),
+        (FOO.as_bytes(), b"Foo&.new.baz", unbuilt_ruby, ""),
+        (FOO.as_bytes(), b"Foo.new.baz(-1)", unbuilt_ruby, ""),
+        (FOO.as_bytes(), b"Foo.new.baz do end", unbuilt_ruby, ""),
+        (
+            FOO.as_bytes(),
+            b"# a\nFoo.new.bar(1); Foo::new().baz(0x10,\n  2)",
+            Outcome::Found(1),
+            "lib/a.rb:2:27: [error] Type `::Foo` does not have method `baz` (Ruby::NoMethod)\nDetected 1 problem from 1 file.\n",
+        ),
         (FOO.as_bytes(), b"Bar.new.baz", unbuilt_ruby, ""),
-        (FOO.as_bytes(), b"Foo.new.b\xffz", unbuilt_ruby, ""),
+        (
+            FOO.as_bytes(),
+            b"Foo.new.b\xffz",
+            Outcome::Found(1),
+            "lib/a.rb:1:9: [error] Syntax error (Ruby::SyntaxError)\nDetected 1 problem from 1 file.\n",
+        ),
+        (
+            b"class",
+            b"def",
+            Outcome::Found(2),
+            "lib/a.rb:1:3: [error] Syntax error (Ruby::SyntaxError)\nsig/a.rbs:1:5: [error] Syntax error (RBS::SyntaxError)\nDetected 2 problems from 2 files.\n",
+        ),
         (
             FOO.as_bytes(),
             b"Foo.new.baz?\rFoo.new.bar(1)\rFoo.new._b!(1, 22)",
@@ -298,6 +319,64 @@ fn refused_signatures_are_reported(rt: HostRuntime) -> Result<(), Fail> {
         let (answer, written) = ran(&rt, alloc, &["check"], calling, &[])?;
         assert_eq!(rt; answer, Outcome::Unbuilt(Part::Ruby), "{wanted}");
         assert_eq!(rt; written.as_str(), "");
+    }
+    Ok(())
+}
+
+#[test]
+fn refused_ruby_is_reported(rt: HostRuntime) -> Result<(), Fail> {
+    let alloc = rt.alloc();
+    let rows = [
+        ("def", "1:3: [error] Syntax error (Ruby::SyntaxError)"),
+        ("Foo.new.?", "1:8: [error] Syntax error (Ruby::SyntaxError)"),
+        (
+            "Foo.new.b\u{fffd}z",
+            "1:9: [error] Syntax error (Ruby::SyntaxError)",
+        ),
+        (
+            "x = 1.5",
+            "1:4: [error] Syntax is not supported: float (Ruby::UnsupportedSyntax)",
+        ),
+        (
+            "Foo.new.baz\nif 1..2 then end",
+            "2:3: [error] Syntax is not supported: flip-flop (Ruby::UnsupportedSyntax)",
+        ),
+        (
+            "eval(1)\nretry",
+            "2:0: [error] Syntax is not supported: retry (Ruby::UnsupportedSyntax)",
+        ),
+    ];
+    for (ruby, wanted) in rows {
+        let wanted = format!(in alloc; "lib/a.rb:{wanted}\nDetected 1 problem from 1 file.\n")?;
+        let ruby = ("lib/a.rb", ruby.as_bytes());
+        let tree = tree(alloc, ruby, ("sig/a.rbs", FOO.as_bytes()), &[])?;
+        let (answer, written) = ran(&rt, alloc, &["check"], tree, &[])?;
+        assert_eq!(rt; answer, Outcome::Found(1), "{wanted}");
+        assert_eq!(rt; written.as_str(), wanted.as_str());
+    }
+    Ok(())
+}
+
+#[test]
+fn deep_ruby_texts_are_refused(rt: HostRuntime) -> Result<(), Fail> {
+    let alloc = rt.alloc();
+    let opened = "(".repeat(alloc, 64)?;
+    let links = ".b".repeat(alloc, 129)?;
+    let linked = format!(in alloc; "a{links}")?;
+    let rows = [(opened.as_str(), 64u32), (linked.as_str(), 257u32)];
+    for (ruby, column) in rows {
+        let wanted = format!(in alloc;
+            "lib/a.rb:1:{column}: [error] Nesting is deeper than 128 (Ruby::SyntaxError)\nDetected 1 problem from 1 file.\n"
+        )?;
+        let tree = tree(
+            alloc,
+            ("lib/a.rb", ruby.as_bytes()),
+            ("sig/a.rbs", b""),
+            &[],
+        )?;
+        let (answer, written) = ran(&rt, alloc, &["check"], tree, &[])?;
+        assert_eq!(rt; answer, Outcome::Found(1), "{wanted}");
+        assert_eq!(rt; written.as_str(), wanted.as_str());
     }
     Ok(())
 }

@@ -1,5 +1,5 @@
 -- What calls are judged by, in a table by name, is what the definitions say of them.
-use Rattle.std.proofs.Common.{◌≡◌, ℕ, Bool, true, false, List, [], ◌∷◌, Option, None, Some, is_none, refl, sym, ap, ◌∙◌, subst, cond, IfOk, OnOk, Result, Ok, Err}
+use Rattle.std.proofs.Common.{◌≡◌, ℕ, Bool, true, false, List, [], ◌∷◌, Option, None, Some, is_none, refl, sym, ap, ◌∙◌, subst, cond, true≢false, IfOk, OnOk, Result, Ok, Err}
 use Rattle.std.proofs.lemmas.Option.{none-some, same_Some}
 use Rattle.std.specs.Prelude.{if◌then◌else◌, ◌==◌}
 use Rattle.std.specs.Option.{option_map, option_map_or, option_and_then, option_or}
@@ -12,13 +12,14 @@ use Rattle.sig_rules.specs.Declarations.{Path, full_name}
 use Rattle.sig_rules.specs.Methods.{method}
 use Rattle.sig_rules.specs.Names.{resolve}
 use Rattle.sig_rules.specs.Worlds.{by_name}
+use Rattle.steep_run.specs.Ruby.{Call, call_faults, fault_at}
 use Rattle.steep_run.specs.Words.{same_word}
 use Rattle.steep_run.specs.Calls.{integers_wanted, is_plain_for, is_public, if_public, name_of, if_made_by_new, class_made, accepts, fits, lacks}
-use Rattle.steep_run.specs.Reading.{callable_of, or_private, is_private, suits, found_or, IsCalled, AreCalled, IsJudgedBy, IsJudged}
+use Rattle.steep_run.specs.Reading.{callable_of, or_private, is_private, suits, found_or, told, IsCalled, AreCalled, IsJudgedBy}
 use Rattle.steep_run.specs.declared.ruby.callable.Callable.{Callable}
 use Rattle.steep_run.specs.declared.ruby.callable.Callable.TheVariants.{Private, Plain, Other}
-use Rattle.steep_run.specs.declared.ruby.text.Judgement.{Judgement}
-use Rattle.steep_run.specs.declared.ruby.text.Judgement.TheVariants.{Misfit}
+use Rattle.steep_run.specs.declared.ruby.judging.Judgement.{Judgement}
+use Rattle.steep_run.specs.declared.ruby.judging.Judgement.TheVariants.{Misfit, Known, Missing}
 
 -- ---- one method
 
@@ -52,32 +53,43 @@ private_found (Some m) = private_public m (is_public m.visible)
 
 -- ---- one call
 
-judged_as : (all : List Declared) (word name : List ℕ) (n start : ℕ) (table : List (List ℕ × Callable)) (j : Judgement) → IsCalled all word (Some table)
-    → IsJudgedBy (suits n (or_private (by_name table name))) (is_private (or_private (by_name table name))) start word name j → IsJudged all start word name n j
-judged_as all word name n start table j called says =
+-- what is said of a call is told as its faults
+told_by : (fits lacks : Bool) (c : Call) (j : Judgement) → IsJudgedBy fits lacks c j → told j ≡ (if fits then Some (if lacks then fault_at c ∷ [] else []) else None)
+told_by true lacks c Misfit says = absurd (true≢false says)
+told_by false lacks c Misfit says = refl
+told_by true true c Known says = absurd (true≢false says.1)
+told_by true false c Known says = refl
+told_by false lacks c Known says = absurd (true≢false (sym says.0))
+told_by true true c (Missing fault) says = ap (λ f. Some (f ∷ [])) says.2
+told_by true false c (Missing fault) says = absurd (true≢false (sym says.1))
+told_by false lacks c (Missing fault) says = absurd (true≢false (sym says.0))
+
+judged_as : (all : List Declared) (c : Call) (table : List (List ℕ × Callable)) (j : Judgement) → IsCalled all c.class (Some table)
+    → IsJudgedBy (suits c.numbers (or_private (by_name table c.method.name))) (is_private (or_private (by_name table c.method.name))) c j → told j ≡ call_faults all c
+judged_as all c table j called says =
     let path : Path = called.0 in
+    let name : List ℕ = c.method.name in
     let there : by_name table name ≡ option_map callable_of (method all path Instance name) = called.2 name in
-    let fits_is : fits all word name n ≡ suits n (or_private (by_name table name)) =
-    ap (λ o. option_map_or (accepts all name n) o false) called.1 ∙ suits_found n (method all path Instance name) ∙ ap (λ o. suits n (or_private o)) (sym there) in
-    let lacks_is : lacks all word name ≡ is_private (or_private (by_name table name)) =
+    let fits_is : fits all c.class name c.numbers ≡ suits c.numbers (or_private (by_name table name)) =
+    ap (λ o. option_map_or (accepts all name c.numbers) o false) called.1 ∙ suits_found c.numbers (method all path Instance name) ∙ ap (λ o. suits c.numbers (or_private o)) (sym there) in
+    let lacks_is : lacks all c.class name ≡ is_private (or_private (by_name table name)) =
     ap (λ o. option_map_or (λ p. is_none (option_and_then if_public (method all p Instance name))) o false) called.1 ∙ private_found (method all path Instance name) ∙ ap (λ o. is_private (or_private o)) (sym there) in
-    subst (λ b. IsJudgedBy b (lacks all word name) start word name j) (sym fits_is)
-    (subst (λ b. IsJudgedBy (suits n (or_private (by_name table name))) b start word name j) (sym lacks_is) says)
+    told_by (fits all c.class name c.numbers) (lacks all c.class name) c j
+    (subst (λ b. IsJudgedBy b (lacks all c.class name) c j) (sym fits_is)
+    (subst (λ b. IsJudgedBy (suits c.numbers (or_private (by_name table name))) b c j) (sym lacks_is) says))
 
 -- a class that makes no object
-pub misfit : (all : List Declared) (given word name : List ℕ) (n start : ℕ) (found : Option (List (List ℕ × Callable))) → given ≡ word → IsCalled all given found → None ≡ found
-    → IsJudged all start word name n Misfit
-misfit all given word name n start found is called none =
-    let unmade : class_made all given ≡ None = subst (IsCalled all given) (sym none) called in
-    subst (λ w. fits all w name n ≡ false) is (ap (λ o. option_map_or (accepts all name n) o false) unmade)
+pub misfit : (all : List Declared) (c : Call) (found : Option (List (List ℕ × Callable))) → IsCalled all c.class found → None ≡ found → told Misfit ≡ call_faults all c
+misfit all c found called none =
+    let unmade : class_made all c.class ≡ None = subst (IsCalled all c.class) (sym none) called in
+    told_by (fits all c.class c.method.name c.numbers) (lacks all c.class c.method.name) c Misfit (ap (λ o. option_map_or (accepts all c.method.name c.numbers) o false) unmade)
 
-pub judged_call : {E : Type 0} (result : Result Judgement E) (all : List Declared) (given word given_name name : List ℕ) (n start : ℕ) (found : Option (List (List ℕ × Callable))) (table : List (List ℕ × Callable)) (asked : Callable)
-    → given ≡ word → given_name ≡ name → IsCalled all given found → Some table ≡ found → asked ≡ or_private (by_name table given_name)
-    → IfOk result (IsJudgedBy (suits n asked) (is_private asked) start word name) → IfOk result (IsJudged all start word name n)
-judged_call (Err e) all given word given_name name n start found table asked is is_name called there asks says = tt
-judged_call (Ok j) all given word given_name name n start found table asked is is_name called there asks says =
-    judged_as all word name n start table j (subst (λ w. IsCalled all w (Some table)) is (subst (IsCalled all given) (sym there) called))
-    (subst (λ c. IsJudgedBy (suits n c) (is_private c) start word name j) (asks ∙ ap (λ w. or_private (by_name table w)) is_name) says)
+pub judged_call : {E : Type 0} (result : Result Judgement E) (all : List Declared) (c : Call) (found : Option (List (List ℕ × Callable))) (table : List (List ℕ × Callable)) (asked : Callable)
+    → IsCalled all c.class found → Some table ≡ found → asked ≡ or_private (by_name table c.method.name)
+    → IfOk result (IsJudgedBy (suits c.numbers asked) (is_private asked) c) → IfOk result (λ j. told j ≡ call_faults all c)
+judged_call (Err e) all c found table asked called there asks says = tt
+judged_call (Ok j) all c found table asked called there asks says =
+    judged_as all c table j (subst (IsCalled all c.class) (sym there) called) (subst (λ a. IsJudgedBy (suits c.numbers a) (is_private a) c j) asks says)
 
 -- ---- the classes that were called
 

@@ -1,12 +1,7 @@
-pub mod CallLemmas
 pub mod ClassLemmas
 pub mod Composed
 pub mod DistinctLemmas
-pub mod NumberLemmas
 pub mod PathLemmas
 pub mod ProjectLemmas
-pub mod ReadLemmas
 pub mod RubyLemmas
 pub mod SignatureLemmas
-pub mod TestLemmas
-pub mod TextLemmas

@@ -14,7 +14,7 @@ use Rattle.sig_rules.specs.Counts.{IsLimitFault}
 use Rattle.definitions.specs.Project.{IsProject}
 use Rattle.steep_run.specs.Small.{is_small}
 use Rattle.steep_run.specs.Signature.{SignatureGives, signature_path, signature_file, IsWithinLimits}
-use Rattle.steep_run.specs.Ruby.{IsRuby, faults_of, ReadsRuby}
+use Rattle.steep_run.specs.Ruby.{ruby_faults, HasOtherProgram}
 use Rattle.steep_run.specs.Project.{rooted, ruby_path, text_of, project_of, first_too_long}
 use Rattle.steep_run.specs.Report.{HasFaults, HasOtherSignature, HasOtherRuby, Reports}
 use Rattle.steep_run.specs.Reading.{IsChecked, passed, too_much}
@@ -24,7 +24,6 @@ use Rattle.steep_run.specs.declared.faults.Faults.{Faults}
 use Rattle.steep_run.specs.declared.outcome.Outcome.{Outcome}
 use Rattle.steep_run.specs.declared.project.Project.{Project}
 use Rattle.steep_run.proofs.SignatureLemmas.{one_declared}
-use Rattle.steep_run.proofs.TextLemmas.{one_faults}
 
 -- from the texts that were read to the project that the tree has
 pub read_both : (files later : Option (List (List ℕ × List ℕ))) (root signature ruby : List ℕ) → later ≡ files
@@ -49,22 +48,14 @@ same_root files given root old new outcome same reports = subst (λ r. IfSome fi
 
 -- from what was read of the two texts to what they are found to be
 pub both_small : (p : Project) (tree : Tree) (all : List Declared) (signature ruby : List Diagnostic) → first_too_long p ≡ None → SignatureGives p.signature tree signature
-    → IsProject (signature_file tree ∷ []) all → IsWithinLimits all → is_small tree ≡ true → ReadsRuby all p.ruby (Some ruby) → HasFaults p (record { ruby = ruby; signature = signature })
-both_small p tree all signature ruby sizes gives project limits small reads = record {
-  all = all;
-  calls = reads.0;
-  sizes = sizes;
-  signature = record { tree = tree; gives = gives; project = project };
-  limits = limits;
-  small = small;
-  ruby = reads.1;
-  ruby_faults = sym reads.2;
-}
+    → IsProject (signature_file tree ∷ []) all → IsWithinLimits all → is_small tree ≡ true → ruby_faults all p.ruby ≡ Some ruby → HasFaults p (record { ruby = ruby; signature = signature })
+both_small p tree all signature ruby sizes gives project limits small reads =
+    record { all = all; sizes = sizes; signature = record { tree = tree; gives = gives; project = project }; limits = limits; small = small; ruby = reads }
 
 pub other_ruby : (p : Project) (tree : Tree) (all : List Declared) (signature : List Diagnostic) → SignatureGives p.signature tree signature → IsProject (signature_file tree ∷ []) all
-    → IsWithinLimits all → is_small tree ≡ true → ReadsRuby all p.ruby None → HasOtherRuby p
-other_ruby p tree all signature gives project limits small none =
-    record { all = all; faults = signature; signature = record { tree = tree; gives = gives; project = project }; limits = limits; small = small; ruby = none }
+    → IsWithinLimits all → is_small tree ≡ true → HasOtherProgram all p.ruby → HasOtherRuby p
+other_ruby p tree all signature gives project limits small other =
+    record { all = all; faults = signature; signature = record { tree = tree; gives = gives; project = project }; limits = limits; small = small; ruby = other }
 
 pub other_signature : (p : Project) (tree : Tree) (all : List Declared) (signature : List Diagnostic) → SignatureGives p.signature tree signature → IsProject (signature_file tree ∷ []) all
     → IsWithinLimits all → is_small tree ≡ false → HasOtherSignature p
@@ -90,7 +81,6 @@ has_too_much p tree faults files (problem.Limit limit n) verdict gives is so tol
 pub one_list : (p : Project) (xs ys : Faults) → HasFaults p xs → HasFaults p ys → xs ≡ ys
 one_list p xs ys a b =
     let one = one_declared p.signature a.all b.all xs.signature ys.signature a.signature b.signature in
-    let other : IsRuby a.all p.ruby b.calls = subst (λ (all : List Declared). IsRuby all p.ruby b.calls) (sym one.all_same) b.ruby in
-    let ruby : xs.ruby ≡ ys.ruby = a.ruby_faults ∙ one_faults a.all a.calls b.calls (sym a.ruby.written ∙ other.written) a.ruby.plain other.plain
-    ∙ ap (λ (all : List Declared). faults_of all b.calls) one.all_same ∙ sym b.ruby_faults in
+    let other : ruby_faults a.all p.ruby ≡ Some ys.ruby = ap (λ (all : List Declared). ruby_faults all p.ruby) one.all_same ∙ b.ruby in
+    let ruby : xs.ruby ≡ ys.ruby = same_Some xs.ruby ys.ruby (sym a.ruby ∙ other) in
     λ i. record { ruby = ruby i; signature = one.faults_same i }

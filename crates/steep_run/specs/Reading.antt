@@ -1,6 +1,6 @@
 -- How the readers go, one entry and one byte at a time, and what each part of a check answers. This is checked against what is small, and
 -- nothing rests on it.
-use Rattle.std.specs.Prelude.{◌≡◌, ◌<◌, IsTrue, ℕ, ◌+◌, is_none, Bool, true, false, not, ◌==◌, ◌&&◌, nat_lt, List, [], ◌∷◌, ◌++◌, map, Option, None, Some, if◌then◌else◌}
+use Rattle.std.specs.Prelude.{◌≡◌, ◌<◌, ℕ, is_none, Bool, true, false, not, ◌==◌, ◌&&◌, List, [], ◌∷◌, ◌++◌, Option, None, Some, if◌then◌else◌}
 use Rattle.std.specs.List.{list_all}
 use Rattle.std.specs.Option.{option_map, option_or}
 use Rattle.std.specs.Io.KnownBytes.{Appends, Keeps}
@@ -15,9 +15,9 @@ use Rattle.sig_rules.specs.declared.method.Method.{Method}
 use Rattle.sig_rules.specs.Declarations.{Path}
 use Rattle.sig_rules.specs.Methods.{method}
 use Rattle.sig_rules.specs.Worlds.{by_name}
-use Rattle.steep_run.specs.Words.{is_digit, same_word, begins, is_ascii_word_byte, is_mark_byte}
-use Rattle.steep_run.specs.Calls.{integers_wanted, is_public, class_made, fits, lacks}
-use Rattle.steep_run.specs.Ruby.{Line, Call, filled, call_line, is_plain_call, call_fits, faults_of, is_mark, fault_at}
+use Rattle.steep_run.specs.Words.{same_word}
+use Rattle.steep_run.specs.Calls.{integers_wanted, is_public, class_made}
+use Rattle.steep_run.specs.Ruby.{Call, fault_at, ruby_faults, HasOtherProgram}
 use Rattle.steep_run.specs.Project.{count_of, report}
 use Rattle.steep_run.specs.Report.{HasFaults, PassesLimit, HasOtherSignature, HasOtherRuby, GainsPrefix}
 use Rattle.steep_run.specs.declared.faults.Faults.{Faults}
@@ -28,11 +28,8 @@ use Rattle.steep_run.specs.declared.check.Verdict.{Verdict}
 use Rattle.steep_run.specs.declared.check.Verdict.TheVariants.{TooManyNames, TooManyMethods, NoSignature, NoRuby, Checked}
 use Rattle.steep_run.specs.declared.ruby.callable.Callable.{Callable}
 use Rattle.steep_run.specs.declared.ruby.callable.Callable.TheVariants.{Private, Plain, Other}
-use Rattle.steep_run.specs.declared.ruby.numbers.Numbers.{Numbers}
-use Rattle.steep_run.specs.declared.ruby.numbers.Place.{Place}
-use Rattle.steep_run.specs.declared.ruby.numbers.Place.TheVariants.{Before, Digits, BehindComma, Behind}
-use Rattle.steep_run.specs.declared.ruby.text.Judgement.{Judgement}
-use Rattle.steep_run.specs.declared.ruby.text.Judgement.TheVariants.{Misfit, Known, Missing}
+use Rattle.steep_run.specs.declared.ruby.judging.Judgement.{Judgement}
+use Rattle.steep_run.specs.declared.ruby.judging.Judgement.TheVariants.{Misfit, Known, Missing}
 
 -- ---- distinct names
 
@@ -94,67 +91,32 @@ IsCalled all word (Some table) = (path : Path) × (class_made all word ≡ Some 
 abbrev pub AreCalled : List Declared → List (List ℕ × List (List ℕ × Callable)) → Type 0
 AreCalled all classes = (word : List ℕ) (table : List (List ℕ × Callable)) → by_name classes word ≡ Some table → IsCalled all word (Some table)
 
--- ---- numbers in brackets
-
--- before the numbers that a line ends with
-abbrev pub new_numbers : Numbers
-new_numbers = record { count = 0; place = Before }
-
-abbrev pub number_step_at : Place → ℕ → ℕ → Option Numbers
-number_step_at Before n b = if b == 40 then Some (record { count = 1; place = Digits 0 }) else None
-number_step_at (Digits k) n b =
-    if is_digit b && nat_lt k 18 then Some (record { count = n; place = Digits (k + 1) })
-    else (if k == 0 then None
-    else (if b == 44 then Some (record { count = n + 1; place = BehindComma })
-    else (if b == 41 then Some (record { count = n; place = Behind }) else None)))
-number_step_at BehindComma n b = if b == 32 then Some (record { count = n; place = Digits 0 }) else None
-number_step_at Behind n b = None
-
-abbrev pub number_step : Numbers → ℕ → Option Numbers
-number_step numbers b = number_step_at numbers.place numbers.count b
-
-abbrev pub counted_at : Place → ℕ → Option ℕ
-counted_at Before n = Some n
-counted_at (Digits k) n = None
-counted_at BehindComma n = None
-counted_at Behind n = Some n
-
--- the number of numbers in brackets that a line ends with, or none where it ends otherwise
-abbrev pub count_numbers : Numbers → List ℕ → Option ℕ
-count_numbers numbers [] = counted_at numbers.place numbers.count
-count_numbers numbers (b ∷ bs) = elim (number_step numbers b) [ None ↦ None | Some next ↦ count_numbers next bs ]
-
--- a method's name in front of some bytes, and what follows it: the longest word with its mark
-pub record IsMethod (bytes method rest : List ℕ) : Type 0 where
-  pub word : List ℕ
-  pub mark : List ℕ
-  pub method_is : method ≡ word ++ mark
-  pub whole : bytes ≡ word ++ (mark ++ rest)
-  pub bytes_of_words : IsTrue (list_all is_ascii_word_byte word)
-  pub longest : begins is_ascii_word_byte (mark ++ rest) ≡ false
-  pub marked : IsTrue (is_mark mark)
-  pub unmarked : begins is_mark_byte (mark ++ rest) ≡ begins is_mark_byte mark
-
--- ---- lines and texts
-
--- what a line adds to the faults, or that no call can be read in it and what follows
-abbrev pub ReadsLine : List Declared → ℕ → List ℕ → Bool → List Diagnostic → List Diagnostic → Type 0
-ReadsLine all at line true old new =
-    (calls : List Call) × (filled (record { start = at; text = line }) ≡ map call_line calls) × IsTrue (list_all is_plain_call calls)
-    × IsTrue (list_all (call_fits all) calls) × (new ≡ old ++ faults_of all calls)
-ReadsLine all at line false old new =
-    (calls : List Call) (more : List Line) → filled (record { start = at; text = line }) ++ more ≡ map call_line calls → IsTrue (list_all is_plain_call calls)
-    → IsTrue (list_all (call_fits all) calls) → ⊥
+-- ---- statements
 
 -- what is said of a call by whether it fits and whether its method is lacking
-abbrev pub IsJudgedBy : Bool → Bool → ℕ → List ℕ → List ℕ → Judgement → Type 0
-IsJudgedBy fits lacks start class name Misfit = fits ≡ false
-IsJudgedBy fits lacks start class name Known = (fits ≡ true) × (lacks ≡ false)
-IsJudgedBy fits lacks start class name (Missing fault) = (fits ≡ true) × (lacks ≡ true) × (fault ≡ fault_at start class name)
+abbrev pub IsJudgedBy : Bool → Bool → Call → Judgement → Type 0
+IsJudgedBy fits lacks c Misfit = fits ≡ false
+IsJudgedBy fits lacks c Known = (fits ≡ true) × (lacks ≡ false)
+IsJudgedBy fits lacks c (Missing fault) = (fits ≡ true) × (lacks ≡ true) × (fault ≡ fault_at c)
 
--- what is said of a call over what is declared
-abbrev pub IsJudged : List Declared → ℕ → List ℕ → List ℕ → ℕ → Judgement → Type 0
-IsJudged all start class name n = IsJudgedBy (fits all class name n) (lacks all class name) start class name
+-- the faults of a call of which this is said
+abbrev pub told : Judgement → Option (List Diagnostic)
+told Misfit = None
+told Known = Some []
+told (Missing fault) = Some (fault ∷ [])
+
+-- the diagnostics gained those of a statement that stands
+abbrev pub Gains : Option (List Diagnostic) → Bool → List Diagnostic → List Diagnostic → Type 0
+Gains found false old new = found ≡ None
+Gains None true old new = ⊥
+Gains (Some faults) true old new = new ≡ old ++ faults
+
+-- what is found in a Ruby text: its faults, or none where it has a program that isn't small
+abbrev pub FindsRuby : List Declared → List ℕ → Option (List Diagnostic) → Type 0
+FindsRuby all text None = HasOtherProgram all text
+FindsRuby all text (Some faults) = ruby_faults all text ≡ Some faults
+
+-- ---- checks
 
 -- what is told of a limit that is passed
 abbrev pub passed : Limit → ℕ → Option Verdict

@@ -16,7 +16,7 @@ use Rattle.steep_run.specs.Words.{same_word}
 use Rattle.steep_run.specs.Project.{first_too_long, count_of, report}
 use Rattle.definitions.specs.Project.{IsProject}
 use Rattle.steep_run.specs.Signature.{SignatureGives, signature_file, Declares, IsWithinLimits}
-use Rattle.steep_run.specs.Ruby.{Call, IsRuby, faults_of}
+use Rattle.steep_run.specs.Ruby.{ruby_faults, HasOtherProgram}
 use Rattle.steep_run.specs.declared.faults.Faults.{Faults}
 use Rattle.steep_run.specs.declared.project.Project.{Project}
 use Rattle.steep_run.specs.declared.outcome.Outcome.{Outcome}
@@ -24,16 +24,15 @@ use Rattle.steep_run.specs.declared.outcome.Outcome.TheVariants.{NoMemory, TreeF
 use Rattle.steep_run.specs.declared.outcome.Part.TheVariants.{Words, Signature, Ruby}
 
 -- No text of the project is too long, its signatures declare no more than they may, what its signature gives is small (a refused one gives
--- no declarations), its Ruby text is small over what they declare, and these are the faults of the two texts, in the order of each.
+-- no declarations), its Ruby text is refused or has a program that is small over what they declare, and these are the faults of the two
+-- texts, in the order of each.
 pub record HasFaults (p : Project) (faults : Faults) : Type 0 where
   pub all : List Declared
-  pub calls : List Call
   pub sizes : first_too_long p ≡ None
   pub signature : Declares p.signature all faults.signature
   pub limits : IsWithinLimits all
   pub small : is_small signature.tree ≡ true
-  pub ruby : IsRuby all p.ruby calls
-  pub ruby_faults : faults.ruby ≡ faults_of all calls
+  pub ruby : ruby_faults all p.ruby ≡ Some faults.ruby
 
 -- The project's signatures declare more than they may: there is so much of what the limit counts. This is said of all that they declare by any
 -- tree of the core signatures, of which there is no second one.
@@ -51,14 +50,15 @@ pub record HasOtherSignature (p : Project) : Type 0 where
   pub limits : IsWithinLimits all
   pub other : is_small signature.tree ≡ false
 
--- The signatures declare no more than they may, what the signature gives is small, and the Ruby text isn't small over what they declare.
+-- The signatures declare no more than they may, what the signature gives is small, and the Ruby text has a program that isn't small over
+-- what they declare.
 pub record HasOtherRuby (p : Project) : Type 0 where
   pub all : List Declared
   pub faults : List Diagnostic
   pub signature : Declares p.signature all faults
   pub limits : IsWithinLimits all
   pub small : is_small signature.tree ≡ true
-  pub ruby : (calls : List Call) → ¬ IsRuby all p.ruby calls
+  pub ruby : HasOtherProgram all p.ruby
 
 -- known bytes grew by a part of these, from their front
 abbrev pub GainsPrefix : Option (List ℕ) → Option (List ℕ) → List ℕ → Type 0

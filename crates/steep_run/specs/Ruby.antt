@@ -1,115 +1,186 @@
--- Small Ruby texts: each line is empty or calls a method on a new object of a class, as `Foo.new.bar(1, 2)`.
-use Rattle.std.specs.Prelude.{◌≡◌, ◌+◌, ℕ, Bool, not, ◌&&◌, ◌||◌, nat_le, nat_lt, IsTrue, List, [], ◌∷◌, ◌++◌, length, map, filter, codes, Option, None, Some, if◌then◌else◌}
-use Rattle.std.specs.List.{list_all, flat_map}
-use Rattle.diagnostics.specs.declared.code.Code.TheVariants.{NoMethod}
+-- What is found in a Ruby text: where it is refused, or, of a small program, the calls of methods that objects lack. A program is small
+-- where each statement calls a method on a new object of a class with integers alone, as `Foo.new.bar(1, 2)`.
+use Rattle.std.specs.Prelude.{◌≡◌, ℕ, ℤ, pos, negsuc, nat_lt, Bool, false, not, ◌&&◌, List, [], ◌∷◌, ◌++◌, length, codes, Option, None, Some, Result, Ok, Err, if◌then◌else◌}
+use Rattle.std.specs.List.{list_all}
+use Rattle.std.specs.Option.{option_and_then, option_map}
+use Rattle.diagnostics.specs.declared.code.Code.TheVariants.{NoMethod, RubySyntaxError, UnsupportedSyntax}
 use Rattle.diagnostics.specs.declared.diagnostic.Diagnostic.{Diagnostic}
+use Rattle.ruby_lexer.specs.Forms.{form_name}
+use Rattle.ruby_lexer.specs.declared.refusal.Form.{Form}
+use Rattle.ruby_lexer.specs.declared.refusal.RubyAt.{RubyAt}
+use Rattle.ruby_lexer.specs.declared.refusal.RubyAt.TheVariants as at
+use Rattle.ruby_parser.specs.Programs.{program_of}
+use Rattle.ruby_tree.specs.declared.names.ConstPath.{ConstPath}
+use Rattle.ruby_tree.specs.declared.names.MethodName.{MethodName}
+use Rattle.ruby_tree.specs.declared.nodes.Node.{Node}
+use Rattle.ruby_tree.specs.declared.nodes.NodeKind.{NodeKind}
+use Rattle.ruby_tree.specs.declared.nodes.NodeKind.TheOpen.{NodeKind-F, Item-F}
+use Rattle.ruby_tree.specs.declared.nodes.NodeKind.TheViews.{out-Node, out-NodeKind, out-Item}
+use Rattle.ruby_tree.specs.declared.nodes.Program.{Program}
+use Rattle.ruby_tree.specs.declared.parts.Arm.{Arm}
+use Rattle.ruby_tree.specs.declared.parts.Dot.TheVariants.{Plain}
+use Rattle.ruby_tree.specs.declared.parts.Item.{Item}
+use Rattle.ruby_tree.specs.declared.parts.Param.{Param}
+use Rattle.ruby_tree.specs.declared.parts.Part.{Part}
+use Rattle.ruby_tree.specs.declared.parts.Rescue.{Rescue}
+use Rattle.ruby_tree.specs.declared.parts.Target.{Target}
+use Rattle.ruby_tree.specs.declared.parts.When.{When}
 use Rattle.sig_rules.specs.declared.files.Declared.{Declared}
 use Rattle.steep_run.specs.Calls.{fits, lacks}
-use Rattle.steep_run.specs.Words.{is_upper, is_digit, is_line_end, begins, same_word, is_ascii_word_byte, is_lower_byte, is_keyword}
+use Rattle.steep_run.specs.Small.{is_nil, lone_word}
+use Rattle.steep_run.specs.Words.{begins, same_word, is_lower_byte, is_keyword}
+use Rattle.steep_run.specs.declared.ruby.calls.FoundCall.{FoundCall}
 
--- a line of a text without its ending, and the offset at which it begins
-pub record Line : Type 0 where
-  pub start : ℕ
-  pub text : List ℕ
+-- ---- calls
 
--- with one more byte in front, and so one offset less
-abbrev pub in_front : ℕ → ℕ → List Line → List Line
-in_front at b [] = record { start = at; text = b ∷ [] } ∷ []
-in_front at b (line ∷ lines) = record { start = at; text = b ∷ line.text } ∷ lines
-
--- the lines of a text that goes on at an offset. A `\r\n` ends a line and then an empty one, which says nothing.
-abbrev pub lines_from : ℕ → List ℕ → List Line
-lines_from at [] = record { start = at; text = [] } ∷ []
-lines_from at (b ∷ bs) = if is_line_end b then record { start = at; text = [] } ∷ lines_from (at + 1) bs else in_front at b (lines_from (at + 1) bs)
-
--- the lines that aren't empty
-abbrev pub is_filled : Line → Bool
-is_filled line = nat_lt 0 (length line.text)
-
-abbrev pub filled_lines : ℕ → List ℕ → List Line
-filled_lines at text = filter is_filled (lines_from at text)
-
--- a line, if it isn't empty
-abbrev pub filled : Line → List Line
-filled line = filter is_filled (line ∷ [])
-
--- a call: the class's name, the method's name as a word and its mark, which is `?`, `!` or nothing, and the numbers in brackets
+-- a call: the class's one word, the method's name and where it stands, and how many integers are passed
 pub record Call : Type 0 where
-  pub start : ℕ
   pub class : List ℕ
-  pub word : List ℕ
-  pub mark : List ℕ
-  pub numbers : List (List ℕ)
+  pub method : MethodName
+  pub numbers : ℕ
 
-abbrev pub method_name : Call → List ℕ
-method_name c = c.word ++ c.mark
+abbrev pub call_of : FoundCall → Call
+call_of c = record { class = c.class.now; method = c.method.now; numbers = c.numbers }
 
--- numbers in brackets, with a comma and a blank between them
-abbrev pub brackets : List (List ℕ) → List ℕ
-brackets [] = []
-brackets (n ∷ ns) = 40 ∷ (n ++ (flat_map (λ m. 44 ∷ 32 ∷ m) ns ++ 41 ∷ []))
+abbrev pub is_ascii_byte : ℕ → Bool
+is_ascii_byte b = nat_lt b 128
 
--- the line that a call is written as
-abbrev pub call_line : Call → Line
-call_line c = record { start = c.start; text = c.class ++ (codes ".new." ++ (c.word ++ (c.mark ++ brackets c.numbers))) }
+-- an ASCII word that begins as no constant does, and no keyword
+abbrev pub is_method_name : List ℕ → Bool
+is_method_name name = list_all is_ascii_byte name && (begins is_lower_byte name && not (is_keyword name))
 
--- a run of 1 to 18 digits
-abbrev pub is_number : List ℕ → Bool
-is_number ds = list_all is_digit ds && (nat_le 1 (length ds) && nat_le (length ds) 18)
+-- what a node is
+abbrev pub Kind : Type 0
+Kind = NodeKind-F NodeKind Item Param Part Target Node Arm Rescue When
 
-abbrev pub is_mark : List ℕ → Bool
-is_mark m = same_word m [] || (same_word m (codes "?") || same_word m (codes "!"))
+abbrev pub kind_of : Node → Kind
+kind_of n = out-NodeKind (out-Node n).kind
 
--- names and numbers of their kinds, and no keyword as a method
-abbrev pub is_plain_call : Call → Bool
-is_plain_call c = (list_all is_ascii_word_byte c.class && begins is_upper c.class)
-    && ((list_all is_ascii_word_byte c.word && begins is_lower_byte c.word)
-    && (is_mark c.mark && (not (is_keyword (method_name c)) && list_all is_number c.numbers)))
+-- an integer without a sign, of 18 digits at most
+abbrev pub is_passed : ℤ → Bool
+is_passed (pos n) = nat_lt n 1000000000000000000
+is_passed (negsuc n) = false
 
-abbrev pub call_fits : List Declared → Call → Bool
-call_fits all c = fits all c.class (method_name c) (length c.numbers)
+abbrev pub is_integer_node : Node → Bool
+is_integer_node n = in_kind (kind_of n)
+  where
+    in_kind : Kind → Bool
+    in_kind (NodeKind-F.Int value) = is_passed value
+    in_kind _ = false
 
--- a small Ruby text: its lines that aren't empty are these calls, as they are written
-pub record IsRuby (all : List Declared) (text : List ℕ) (calls : List Call) : Type 0 where
-  pub written : filled_lines 0 text ≡ map call_line calls
-  pub plain : IsTrue (list_all is_plain_call calls)
-  pub fit : IsTrue (list_all (call_fits all) calls)
+-- whether an argument is such an integer
+abbrev pub is_integer : Item → Bool
+is_integer i = in_item (out-Item i)
+  where
+    in_item : Item-F NodeKind Item Param Part Target Node Arm Rescue When → Bool
+    in_item (Item-F.Value n) = is_integer_node n
+    in_item _ = false
+
+-- the one word of a path, if it is in ASCII
+abbrev pub if_ascii : List ℕ → Option (List ℕ)
+if_ascii word = if list_all is_ascii_byte word then Some word else None
+
+abbrev pub path_word : ConstPath → Option (List ℕ)
+path_word path = if path.absolute then None else option_and_then if_ascii (lone_word path.words)
+
+-- the word of a constant that is one word
+abbrev pub class_word : Node → Option (List ℕ)
+class_word n = in_kind (kind_of n)
+  where
+    in_kind : Kind → Option (List ℕ)
+    in_kind (NodeKind-F.NodeKind::Const None path) = path_word path
+    in_kind _ = None
+
+-- the class of which `new` without arguments is called
+abbrev pub new_on : Node → MethodName → List Item → Option (List ℕ)
+new_on receiver method args = if same_word method.name (codes "new") && is_nil args then class_word receiver else None
+
+abbrev pub new_of : Node → Option (List ℕ)
+new_of n = in_kind (kind_of n)
+  where
+    in_kind : Kind → Option (List ℕ)
+    in_kind (NodeKind-F.Call (Some receiver) Plain method args None) = new_on receiver method args
+    in_kind _ = None
+
+abbrev pub call_with : MethodName → List Item → List ℕ → Call
+call_with method args class = record { class = class; method = method; numbers = length args }
+
+abbrev pub call_on : Node → MethodName → List Item → Option Call
+call_on receiver method args =
+    if is_method_name method.name && list_all is_integer args then option_map (call_with method args) (new_of receiver) else None
+
+-- the call that a statement is
+abbrev pub call_in : Node → Option Call
+call_in n = in_kind (kind_of n)
+  where
+    in_kind : Kind → Option Call
+    in_kind (NodeKind-F.Call (Some receiver) Plain method args None) = call_on receiver method args
+    in_kind _ = None
+
+-- ---- faults
 
 unfoldable pub fault_text : List ℕ → List ℕ → List ℕ
 fault_text class method = codes "Type `::" ++ (class ++ (codes "` does not have method `" ++ (method ++ codes "`")))
 
 -- the fault at the name of a method that an object lacks; where nothing encloses it, a class's full name is `::` and its word
-abbrev pub fault_at : ℕ → List ℕ → List ℕ → Diagnostic
-fault_at start class method =
-    let at = start + (length class + 5) in
-    record {
-      span = record { start = at; end = at + length method };
-      code = NoMethod;
-      message = fault_text class method;
-      severity = 1;
-    }
+abbrev pub fault_at : Call → Diagnostic
+fault_at c = record { span = c.method.at; code = NoMethod; message = fault_text c.class c.method.name; severity = 1 }
 
-abbrev pub fault_of : Call → Diagnostic
-fault_of c = fault_at c.start c.class (method_name c)
+-- the faults of a call, if it can be judged
+abbrev pub call_faults : List Declared → Call → Option (List Diagnostic)
+call_faults all c =
+    if fits all c.class c.method.name c.numbers then Some (if lacks all c.class c.method.name then fault_at c ∷ [] else []) else None
 
--- the faults of the calls, in the text's order
-abbrev pub faults_of : List Declared → List Call → List Diagnostic
-faults_of all calls = map fault_of (filter (λ (c : Call). lacks all c.class (method_name c)) calls)
+-- those of a statement, if it is such a call
+abbrev pub statement_faults : List Declared → Node → Option (List Diagnostic)
+statement_faults all n = option_and_then (call_faults all) (call_in n)
 
--- a line is this call
-pub record IsCall (line : List ℕ) (start : ℕ) (class method : List ℕ) (n : ℕ) : Type 0 where
-  pub call : Call
-  pub plain : IsTrue (is_plain_call call)
-  pub line_is : call_line call ≡ record { start = start; text = line }
-  pub class_is : call.class ≡ class
-  pub method_is : method_name call ≡ method
-  pub numbers_are : length call.numbers ≡ n
+-- diagnostics before others, if there are any others
+abbrev pub before : List Diagnostic → Option (List Diagnostic) → Option (List Diagnostic)
+before front None = None
+before front (Some faults) = Some (front ++ faults)
 
--- a line is no call
-abbrev pub IsNoCall : ℕ → List ℕ → Type 0
-IsNoCall start line = (c : Call) → IsTrue (is_plain_call c) → call_line c ≡ record { start = start; text = line } → ⊥
+abbrev pub in_a_row : Option (List Diagnostic) → Option (List Diagnostic) → Option (List Diagnostic)
+in_a_row None behind = None
+in_a_row (Some front) behind = before front behind
 
--- what a reader of Ruby texts answers: the faults, or none where the text isn't small
-abbrev pub ReadsRuby : List Declared → List ℕ → Option (List Diagnostic) → Type 0
-ReadsRuby all text None = (calls : List Call) → ¬ IsRuby all text calls
-ReadsRuby all text (Some faults) = (calls : List Call) × IsRuby all text calls × (faults_of all calls ≡ faults)
+-- those of statements in their order, if each is such a call
+abbrev pub faults_among : List Declared → List Node → Option (List Diagnostic)
+faults_among all [] = Some []
+faults_among all (n ∷ ns) = in_a_row (statement_faults all n) (faults_among all ns)
+
+-- those of a program, if it is small over what is declared
+abbrev pub program_faults : List Declared → Program → Option (List Diagnostic)
+program_faults all p = in_kind (kind_of p.root)
+  where
+    in_kind : Kind → Option (List Diagnostic)
+    in_kind (NodeKind-F.Seq nodes) = faults_among all nodes
+    in_kind _ = None
+
+-- ---- texts
+
+-- what is said of a form that is refused
+unfoldable pub form_text : Form → List ℕ
+form_text form = codes "Syntax is not supported: " ++ form_name form
+
+-- what is said where a text is refused
+abbrev pub refusal_at : RubyAt → Option (List Diagnostic)
+refusal_at (at.Syntax span) = Some (record { span = span; code = RubySyntaxError; message = codes "Syntax error"; severity = 1 } ∷ [])
+refusal_at (at.TooDeep span) = Some (record { span = span; code = RubySyntaxError; message = codes "Nesting is deeper than 128"; severity = 1 } ∷ [])
+refusal_at (at.Unsupported span form) = Some (record { span = span; code = UnsupportedSyntax; message = form_text form; severity = 1 } ∷ [])
+refusal_at at.NoMemory = None
+
+abbrev pub answer_faults : List Declared → Result Program RubyAt → Option (List Diagnostic)
+answer_faults all (Ok program) = program_faults all program
+answer_faults all (Err fault) = refusal_at fault
+
+-- The diagnostics of a Ruby text over what is declared: the one where it is refused, or those of its small program. A text with any other
+-- program has none, and isn't checked. Want of memory is no text's answer.
+unfoldable pub ruby_faults : List Declared → List ℕ → Option (List Diagnostic)
+ruby_faults all text = answer_faults all (program_of text)
+
+-- The text has a program, and this isn't small over what is declared.
+pub record HasOtherProgram (all : List Declared) (text : List ℕ) : Type 0 where
+  pub program : Program
+  pub read : program_of text ≡ Ok program
+  pub other : program_faults all program ≡ None

@@ -9,10 +9,6 @@ is_upper c = nat_le 65 c && nat_le c 90
 abbrev pub is_digit : ℕ → Bool
 is_digit c = nat_le 48 c && nat_le c 57
 
--- a line feed or a carriage return
-abbrev pub is_line_end : ℕ → Bool
-is_line_end c = c == 10 || c == 13
-
 -- whether the first byte passes a test
 abbrev pub begins : (ℕ → Bool) → List ℕ → Bool
 begins test [] = false
@@ -31,10 +27,6 @@ is_interface_name (c ∷ cs) = c == 95 && begins is_upper cs
 abbrev pub is_lower_byte : ℕ → Bool
 is_lower_byte c = c == 95 || (nat_le 97 c && nat_le c 122)
 
--- a word of Ruby in ASCII: letters, digits and `_`
-abbrev pub is_ascii_word_byte : ℕ → Bool
-is_ascii_word_byte c = is_digit c || (is_upper c || is_lower_byte c)
-
 -- Ruby's keywords, those among them that the checker's profile refuses, and the numbered parameters, which it refuses too
 abbrev pub keywords : List (List ℕ)
 keywords =
@@ -47,6 +39,3 @@ keywords =
 
 abbrev pub is_keyword : List ℕ → Bool
 is_keyword w = list_any (same_word w) keywords
-
-abbrev pub is_mark_byte : ℕ → Bool
-is_mark_byte b = b == 63 || b == 33

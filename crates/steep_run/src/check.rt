@@ -117,7 +117,7 @@ pub enum Verdict {
     TooManyMethods(u64),
     /// Neither is so, and the signature has a tree that isn't small.
     NoSignature,
-    /// None of these is so, and the Ruby text isn't small.
+    /// None of these is so, and the Ruby text has a program that isn't small.
     NoRuby,
     /// Both texts are checked, with these faults.
     Checked(Faults),

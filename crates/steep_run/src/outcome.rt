@@ -12,7 +12,7 @@ pub enum Part {
     Words,
     /// Signatures that aren't small.
     Signature,
-    /// Ruby texts that aren't small.
+    /// Ruby programs that aren't small.
     Ruby,
 }
 

@@ -1,10 +1,10 @@
-//! Small Ruby texts: lines that call a method on a new object of a class.
+//! Ruby programs, and those among them that are small: each statement calls a method on a new object of a class.
 
-mod call;
 mod callable;
+mod calls;
 mod class;
-mod line;
-mod numbers;
-mod text;
+mod judging;
+mod keywords;
+mod reading;
 
-pub use text::faults;
+pub use reading::faults;

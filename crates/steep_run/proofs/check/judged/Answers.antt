@@ -1,5 +1,5 @@
 use Rattle.std.proofs.Common.{rules, ◌≡◌, true, false, Some, None}
-use Rattle.steep_run.specs.Ruby.{ReadsRuby}
+use Rattle.steep_run.specs.Reading.{FindsRuby}
 use Rattle.steep_run.specs.Small.{is_small}
 use Rattle.steep_run.proofs.ProjectLemmas.{other_signature, both_small, other_ruby}
 use Rattle.steep_run.proofs.check.judged.Goals as goal
@@ -12,11 +12,11 @@ returns-then-not-branch g c =
 pub returns-in-Some : goal.returns-in-Some
 returns-in-Some g c =
     let small : is_small c.args.decls.now ≡ true = search rules in
-    let reads : ReadsRuby (g.M.Names.all c.args.members.now) c.args.project.now.ruby (Some c.in-Some.ruby) = search rules in
+    let reads : FindsRuby (g.M.Names.all c.args.members.now) c.args.project.now.ruby (Some c.in-Some.ruby) = search rules in
     both_small c.args.project.now c.args.decls.now (g.M.Names.all c.args.members.now) c.args.signature c.in-Some.ruby c.requires.sizes c.requires.gives c.requires.declares c.requires.limits small reads
 
 pub returns-in-None : goal.returns-in-None
 returns-in-None g c =
     let small : is_small c.args.decls.now ≡ true = search rules in
-    let reads : ReadsRuby (g.M.Names.all c.args.members.now) c.args.project.now.ruby None = search rules in
+    let reads : FindsRuby (g.M.Names.all c.args.members.now) c.args.project.now.ruby None = search rules in
     other_ruby c.args.project.now c.args.decls.now (g.M.Names.all c.args.members.now) c.args.signature c.requires.gives c.requires.declares c.requires.limits small reads

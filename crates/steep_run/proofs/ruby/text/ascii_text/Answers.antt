@@ -1,6 +1,0 @@
-use Rattle.std.proofs.Common.{rules}
-use Rattle.std.proofs.lemmas.Str.{IsUtf8-from_ascii}
-use Rattle.steep_run.proofs.ruby.text.ascii_text.Goals as goal
-
-pub unwrap-requires : goal.unwrap-requires
-unwrap-requires c = let utf8 = IsUtf8-from_ascii c.args.bytes.now c.requires in search rules
