@@ -10,11 +10,10 @@ use Rattle.ruby_lowering.specs.Lowering.{root_of}
 use Rattle.ruby_tree.specs.declared.nodes.Node.{Node}
 use Rattle.ruby_tree.specs.declared.nodes.Program.{Program}
 use Rattle.ruby_parser.specs.declared.refused.Refused.{Refused}
-use Rattle.ruby_numbers.specs.Laws.{HasEachOnce, IsNumbered, numbers_in}
+use Rattle.ruby_numbers.specs.Laws.{HasEachOnce, IsNumbered}
+use Rattle.ruby_numbers.specs.Numbers.{node_numbered}
 use Rattle.ruby_parser.specs.Programs.{numbered_root, program_of, program_lexed, program_derived, unless_refused}
 use Rattle.ruby_parser.specs.Refused.{refused_in}
-use Rattle.ruby_numbers.proofs.EachOnce.{distinct}
-use Rattle.ruby_numbers.proofs.InOrder.{is_numbered}
 
 -- what holds of each tree with numbers from 0 on holds of each program
 module _ (Holds : Program → Type 0) (of_root : (root : Node) → Holds (record { root = numbered_root root })) where
@@ -34,8 +33,9 @@ module _ (Holds : Program → Type 0) (of_root : (root : Node) → Holds (record
   unfolding program_of
   program_holds text = lexed_holds (tokens_of text)
 
-pub programs_numbered : (text : List ℕ) → IfOk (program_of text) IsNumbered
-programs_numbered = program_holds IsNumbered is_numbered
+-- what holds of each tree with numbers from 0 on, handed to the programs
+pub programs_numbered : ((root : Node) → IsNumbered (record { root = (node_numbered root 0).0 })) → (text : List ℕ) → IfOk (program_of text) IsNumbered
+programs_numbered = program_holds IsNumbered
 
-pub programs_distinct : (text : List ℕ) → IfOk (program_of text) HasEachOnce
-programs_distinct = program_holds HasEachOnce (λ root. distinct (numbers_in (numbered_root root)) 0 (is_numbered root))
+pub programs_distinct : ((root : Node) → HasEachOnce (record { root = (node_numbered root 0).0 })) → (text : List ℕ) → IfOk (program_of text) HasEachOnce
+programs_distinct = program_holds HasEachOnce
