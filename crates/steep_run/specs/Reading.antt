@@ -1,4 +1,4 @@
--- How the readers go, one entry and one byte at a time, and what each part of a check answers. This is checked against what is small, and
+-- How the readers go, one entry at a time, and what each part of a check answers. This is checked against what is small, and
 -- nothing rests on it.
 use Rattle.std.specs.Prelude.{◌≡◌, ◌<◌, ℕ, is_none, Bool, true, false, not, ◌==◌, ◌&&◌, List, [], ◌∷◌, ◌++◌, Option, None, Some, if◌then◌else◌}
 use Rattle.std.specs.List.{list_all}

@@ -24,9 +24,9 @@ use rbs_tree::Decl;
 use sig_rules::{FileTree, Limit, LimitFault, Members};
 use src_text::{Mem, NoMemory, Seq, Text};
 use std::alloc::Global;
-use std::slice;
 use std::sync::Wait;
 use std::thread::Threads;
+use std::{mem, slice};
 
 /// The program: what the words ask for, over the source, the sink and the tree that are handed in. Only `check` alone is built.
 pub fn run<R: Threads + Wait + Sync, S: Source, K: Sink + Send, T: Tree, G: Gate + Sync>(
@@ -142,9 +142,20 @@ fn checked_over(alloc: Global, project: &Project, found: FoundSignature) -> Mem<
         decls: found.tree,
     };
     match FreshTable::new(alloc, slice::from_ref(&file)) {
-        Ok(table) => judged(alloc, project, &table, file.decls.as_slice(), found.faults),
+        Ok(table) => {
+            let verdict = judged(alloc, project, &table, file.decls.as_slice(), found.faults);
+            left_to_the_end(table, file);
+            verdict
+        }
         Err(fault) => too_much(fault),
     }
+}
+
+// Leaves the memory of a project's table and tree to the end of the program, which is right behind a check: giving it back piece by piece
+// takes a fifth of the whole time.
+fn left_to_the_end(table: FreshTable, file: FileTree) {
+    mem::forget(table);
+    mem::forget(file);
 }
 
 // What the texts are found to be where there is too much to be declared.
