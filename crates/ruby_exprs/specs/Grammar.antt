@@ -83,17 +83,16 @@ part_of (n.Expr sort) = expr_rule sort
 part_of n.Stmt = stmt_rule
 part_of n.Program = program_rule
 
--- Whether what a rule derives at a place is kept: of each that is opened, and of the values with their links, which are read five times.
+-- Whether what a rule derives at a place is kept: of the values, which are read again for each form that begins with one, and of the lists in
+-- brackets and the parameters, which are long.
 unfoldable pub is_kept : Name → Bool
 is_kept n.Stmt = true
 is_kept (n.Arg sort) = true
 is_kept (n.Not sort) = true
-is_kept (n.Dfn sort) = true
-is_kept (n.Min sort) = true
-is_kept (n.Una sort) = true
-is_kept (n.Expr sort) = true
 is_kept (n.Command sort) = true
 is_kept (n.PostParts sort) = true
+is_kept n.Pargs = true
+is_kept (n.Param list) = true
 is_kept other = false
 
 abbrev pub rule_of : Name → Rule

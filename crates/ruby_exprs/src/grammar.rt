@@ -114,12 +114,10 @@ fn is_kept(name: Name) -> bool
         Name::Stmt => true,
         Name::Arg(_) => true,
         Name::Not(_) => true,
-        Name::Dfn(_) => true,
-        Name::Min(_) => true,
-        Name::Una(_) => true,
-        Name::Expr(_) => true,
         Name::Command(_) => true,
         Name::PostParts(_) => true,
+        Name::Pargs => true,
+        Name::Param(_) => true,
         _ => false,
     }
 }

@@ -1,11 +1,12 @@
 -- What is read in some room is read in each room that is enough for it: the readings of the parts.
-use Rattle.std.proofs.Common.{◌≡◌, ◌≤◌, ℕ, zero, suc, max, Bool, true, false, if◌then◌else◌, List, Option, Some, None, Result, Ok, Err, refl, sym, ap, subst, ◌∙◌, arith}
+use Rattle.std.proofs.Common.{◌≡◌, ◌≤◌, ℕ, zero, suc, max, Bool, true, false, if◌then◌else◌, List, slice_get, Option, Some, None, Result, Ok, Err, refl, sym, ap, subst, ◌∙◌, arith}
 use Rattle.std.proofs.lemmas.Grind.{common_steps}
 use Rattle.ruby_grammar.specs.declared.token.Token.{Token}
 use Rattle.ruby_grammar.specs.declared.set.TokenSet.{TokenSet}
 use Rattle.ruby_grammar.specs.declared.room.Room.{Room}
 use Rattle.ruby_grammar.specs.declared.step.Step.{Step}
-use Rattle.ruby_grammar.specs.Steps.{Reading, room_of_both, no_room, failed, and_then, or_else, but_tried, on_step, token_read, go_on, both_read, or_try, either_read, further, turn, turns, no_more, none_fits, full_chain, negated, not_read, marked, marked_read, mark_in, ended_step, ended_read}
+use Rattle.ruby_grammar.specs.Steps.{Reading, room_of_both, no_room, failed, and_then, or_else, but_tried, on_step, token_read, go_on, both_read, or_try, either_read, further, turn, turns, no_more, none_fits, full_chain, negated, not_read, marked, marked_read, mark_in, ended_step, ended_read, guarded_read}
+use Rattle.ruby_grammar.specs.Tokens.{may_stand}
 use Rattle.ruby_grammar.specs.Memos.{Fits}
 
 -- What the first reads that this room is enough for, the second reads too.
@@ -131,3 +132,10 @@ ended_fits room labels i s (Some next) fits = if_fits room (mark_in labels s.mar
 pub keeps_ended : (room : Room) (labels : List Bool) (p q : Reading) → Keeps room p q → Keeps room (ended_read labels p) (ended_read labels q)
 keeps_ended room labels p q kept = keeps_then room p q (λ i s. Ok (ended_step labels i s s.next)) (λ i s. Ok (ended_step labels i s s.next)) kept
     (λ i s t e fits. (ended_fits room labels i s s.next (fits_same room (ended_step labels i s s.next) t (ok_same (ended_step labels i s s.next) t e) fits), e))
+
+keeps_if : (room : Room) (b : Bool) (p q : Reading) → Keeps room p q → (i : ℕ) (s : Step) → (if b then p i else Ok (failed i)) ≡ Ok s → Fits s.need room → (if b then q i else Ok (failed i)) ≡ Ok s
+keeps_if room true p q kept i s e fits = kept i s e fits
+keeps_if room false p q kept i s e fits = e
+
+pub keeps_guarded : (room : Room) (tokens : List Token) (table : List Bool) (p q : Reading) → Keeps room p q → Keeps room (guarded_read tokens table p) (guarded_read tokens table q)
+keeps_guarded room tokens table p q kept i s e fits = keeps_if room (may_stand table (slice_get tokens i)) p q kept i s e fits

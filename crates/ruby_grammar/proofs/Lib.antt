@@ -1,4 +1,6 @@
 pub mod Behind
+pub mod Choices
+pub mod Guards
 pub mod Keeps
 pub mod Kept
 pub mod Rooms

@@ -12,7 +12,7 @@ use Rattle.ruby_grammar.specs.declared.part.Part.TheFolds.{fold-roll-Part, map-P
 use Rattle.ruby_grammar.specs.Steps.{passed, no_more, full_chain, counted_step, on_step}
 use Rattle.ruby_grammar.specs.Meaning.{Meaning, links, means_layer, means, rule_means, called, inside, within, opens, opens_rules, opens_words}
 use Rattle.ruby_grammar.specs.Memos.{Fits}
-use Rattle.ruby_grammar.proofs.Keeps.{Keeps, on_step_ok, ok, ok_same, keeps_both, keeps_either, keeps_turns, no_more_ends, full_chain_ends, keeps_not, keeps_marked, keeps_ended}
+use Rattle.ruby_grammar.proofs.Keeps.{Keeps, on_step_ok, ok, ok_same, keeps_both, keeps_either, keeps_turns, no_more_ends, full_chain_ends, keeps_not, keeps_marked, keeps_ended, keeps_guarded}
 use Rattle.ruby_grammar.proofs.Within.{within_inside}
 
 -- ---- parts
@@ -46,6 +46,7 @@ module _ (tokens : List Token) (room : Room) (opens1 opens2 : Budget → ℕ →
   layer_keeps (Part-F.Call r) = as_part (Part-F.Call r) (kept_calls r)
   layer_keeps (Part-F.Open b r) = as_part (Part-F.Open b r) (kept_opens b r)
   layer_keeps (Part-F.Ended labels p) = as_part (Part-F.Ended labels p.0) (keeps_ended room labels _ _ p.1)
+  layer_keeps (Part-F.Guarded table p) = as_part (Part-F.Guarded table p.0) (keeps_guarded room tokens table _ _ p.1)
 
   pub part_keeps : (part : Part) → KeepsPart part
   part_keeps = ind-Part KeepsPart (λ x y is. subst (λ z. KeepsPart (roll-Part z)) is (layer_keeps y))

@@ -78,3 +78,7 @@ own_reads rules tokens room r i rule result is = subst (λ (m : Meaning). Reads 
 
 pub own_grows : (rules : List Rule) (tokens : List Token) (room : Room) (r i : ℕ) (rule : Rule) (result : Result Grown NoMemory) → slice_get rules r ≡ Some rule → IfOk result (λ g. g ≡ grown (part_in rules tokens room r rule.part) i) → IfOk result (λ g. g ≡ grown (within rules tokens room.rules room.words r) i)
 own_grows rules tokens room r i rule result is = subst (λ (m : Meaning). IfOk result (λ g. g ≡ grown m i)) (own_within rules tokens room r rule is)
+
+-- What a rule's own part reads in every room and with every meaning of other rules, the rule reads.
+pub own_step : (rules : List Rule) (tokens : List Token) (room : Room) (r i : ℕ) (rule : Rule) (read : Result Step ℕ) → slice_get rules r ≡ Some rule → (part_in rules tokens room r rule.part).step i ≡ read → (within rules tokens room.rules room.words r).step i ≡ read
+own_step rules tokens room r i rule read is e = ap (λ (m : Meaning). m.step i) (sym (own_within rules tokens room r rule is)) ∙ e

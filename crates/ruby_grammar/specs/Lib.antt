@@ -1,3 +1,4 @@
+pub mod Firsts
 pub mod Meaning
 pub mod Memos
 pub mod Parsed

@@ -11,7 +11,7 @@ use Rattle.ruby_grammar.specs.declared.part.Part.{Part}
 use Rattle.ruby_grammar.specs.declared.part.Rule.{Rule}
 use Rattle.ruby_grammar.specs.declared.part.Part.TheOpen.{Part-F}
 use Rattle.ruby_grammar.specs.declared.part.Part.TheFolds.{fold-Part}
-use Rattle.ruby_grammar.specs.Steps.{Reading, passed, failed, further, token_read, both_read, either_read, turns, no_more, full_chain, not_read, marked_read, counted_read, ended_read}
+use Rattle.ruby_grammar.specs.Steps.{Reading, passed, failed, further, token_read, both_read, either_read, turns, no_more, full_chain, not_read, marked_read, counted_read, ended_read, guarded_read}
 
 -- ---- trees
 
@@ -79,6 +79,7 @@ means_layer tokens opens calls (Part-F.Chained name p) = record { step = marked_
 means_layer tokens opens calls (Part-F.Call r) = calls r
 means_layer tokens opens calls (Part-F.Open b r) = opens b r
 means_layer tokens opens calls (Part-F.Ended labels p) = record { step = ended_read labels p.step; trees = p.trees }
+means_layer tokens opens calls (Part-F.Guarded table p) = record { step = guarded_read tokens table p.step; trees = p.trees }
 
 abbrev pub means : List Token → (Budget → ℕ → Meaning) → (ℕ → Meaning) → Part → Meaning
 means tokens opens calls = fold-Part Meaning (means_layer tokens opens calls)

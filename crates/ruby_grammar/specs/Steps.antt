@@ -6,7 +6,7 @@ use Rattle.ruby_grammar.specs.declared.room.Room.{Room}
 use Rattle.ruby_grammar.specs.declared.room.Budget.{Budget}
 use Rattle.ruby_grammar.specs.declared.room.Budget.TheVariants as budget
 use Rattle.ruby_grammar.specs.declared.step.Step.{Step}
-use Rattle.ruby_grammar.specs.Tokens.{has, in_table}
+use Rattle.ruby_grammar.specs.Tokens.{has, in_table, may_stand}
 
 -- From each place on a step, or the place where it is too deep.
 abbrev pub Reading : Type 0
@@ -117,10 +117,15 @@ negated i need (Some next) = record { far = i; next = None; mark = None; need = 
 abbrev pub not_read : Reading → Reading
 not_read p i = on_step (p i) (λ s. Ok (negated i s.need s.next))
 
-abbrev pub marked : ℕ → Step → Step
-marked name s = record { far = s.far; next = s.next; mark = Some name; need = s.need }
+abbrev pub mark_of : ℕ → Option ℕ → Option ℕ → Option ℕ
+mark_of name mark None = mark
+mark_of name mark (Some next) = Some name
 
--- this, with a name as its mark
+-- a name as the mark of what derives
+abbrev pub marked : ℕ → Step → Step
+marked name s = record { far = s.far; next = s.next; mark = mark_of name s.mark s.next; need = s.need }
+
+-- this, with a name as its mark where it derives
 abbrev pub marked_read : ℕ → Reading → Reading
 marked_read name p i = on_step (p i) (λ s. Ok (marked name s))
 
@@ -142,3 +147,7 @@ ended_step labels i s (Some next) = if mark_in labels s.mark then s else or_else
 -- this, where its mark is in the table; else it fails where it began, with what failed in it kept
 abbrev pub ended_read : List Bool → Reading → Reading
 ended_read labels p i = on_step (p i) (λ s. Ok (ended_step labels i s s.next))
+
+-- this, where the table lets the token stand that stands here; else it fails here
+abbrev pub guarded_read : List Token → List Bool → Reading → Reading
+guarded_read tokens table p i = if may_stand table (slice_get tokens i) then p i else Ok (failed i)

@@ -20,3 +20,12 @@ blank_fits blank.Without b = not b
 
 abbrev pub has : TokenSet → Token → Bool
 has set t = in_table set.kinds t.kind && blank_fits set.blank t.blank
+
+abbrev pub or_true : Option Bool → Bool
+or_true None = true
+or_true (Some b) = b
+
+-- A table says of each kind whether such a token may stand at a place; kinds past its end may. Where no token stands, none may.
+abbrev pub may_stand : List Bool → Option Token → Bool
+may_stand table None = false
+may_stand table (Some t) = or_true (slice_get table t.kind)

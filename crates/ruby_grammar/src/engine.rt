@@ -1,9 +1,11 @@
 //! Reading by a grammar: how far it goes, without trees.
 
-ghost use Rattle.std.specs.Prelude.{◌≡◌, ◌+◌, ◌<◌, ◌↔◌, length, slice_get, Some, Ok, IsTrue};
+ghost use Rattle.std.specs.Prelude.{◌≡◌, ◌+◌, ◌<◌, ◌↔◌, ℕ, length, slice_get, Some, Ok, IsTrue};
 ghost use Rattle.std.specs.Option.{option_copied};
 ghost use Rattle.ruby_grammar.specs.Steps as spec;
-ghost use Rattle.ruby_grammar.specs.Meaning.{links, called, opens, within, part_in};
+ghost use Rattle.ruby_grammar.specs.Tokens.{may_stand};
+ghost use Rattle.ruby_grammar.specs.declared.room.Budget.{Budget};
+ghost use Rattle.ruby_grammar.specs.Meaning.{Meaning, links, called, means, opens, within, part_in};
 ghost use Rattle.ruby_grammar.specs.declared.room.Budget.TheVariants as budget;
 ghost use Rattle.ruby_grammar.specs.Memos.{Sound, Reads, Nests, Fits, work};
 
@@ -11,7 +13,7 @@ use crate::memo::Memo;
 use crate::part::{Part, Rule};
 use crate::refusal::Refusal;
 use crate::room::{Budget, Room};
-use crate::set::{TokenSet, in_table};
+use crate::set::{TokenSet, in_table, may_stand};
 use crate::step::{Step, further};
 use crate::token::Token;
 use src_text::{NoMemory, Seq};
@@ -56,6 +58,23 @@ fn token(tokens: &[Token], set: &TokenSet, place: usize) -> Result<Step, Refusal
     ensures { Reads (spec.token_read tokens.now set.now place) result }
 {
     Ok(token_at(tokens, set, place))
+}
+
+// Whether a table lets the token stand that stands at a place.
+pub fn stands(tokens: &[Token], table: &Seq<bool>, place: usize) -> bool
+    ensures { result ≡ may_stand table.now (slice_get tokens.now place) }
+{
+    place < tokens.len() && may_stand(table, tokens[place])
+}
+
+/// Whether a part has a guard that doesn't let the token stand that stands at a place: it fails there.
+pub fn is_barred(tokens: &[Token], part: &Part, place: usize) -> bool
+    ensures { IsTrue result → (opens : Budget → ℕ → Meaning) (calls : ℕ → Meaning) → (means tokens.now opens calls part.now).step place ≡ Ok (spec.failed place) }
+{
+    match part {
+        Part::Guarded(table, _) => !stands(tokens, table, place),
+        _ => false,
+    }
 }
 
 // Whether a mark is in a table.
@@ -230,6 +249,7 @@ impl<'a, F: Fn(&mut Memo, &[Rule], &[Token], Room, usize, usize) -> Result<Step,
                 Budget::Words => self.opened_word(memo, *rule, place),
             },
             Part::Ended(labels, inner) => self.ended(memo, labels, inner.get(), place),
+            Part::Guarded(table, inner) => self.guarded(memo, table, inner.get(), place),
         }
     }
 
@@ -320,6 +340,28 @@ impl<'a, F: Fn(&mut Memo, &[Rule], &[Token], Room, usize, usize) -> Result<Step,
         Ok(ended(labels, place, step))
     }
 
+    // A part, where a table lets the token stand that stands here.
+    #[inline(never)]
+    #[cycle(scan)]
+    fn guarded(
+        &self,
+        memo: &mut Memo,
+        table: &Seq<bool>,
+        part: &Part,
+        place: usize,
+    ) -> Result<Step, Refusal>
+        requires nests { Nests (work (length self.now.rules.now) self.now.room self.now.number) self.now.rules.now (F.pre self.now.read) (F.post self.now.read) }
+        requires sound { Sound self.now.rules.now self.now.tokens.now memo.old }
+        ensures sound { Sound self.now.rules.now self.now.tokens.now memo.new }
+        ensures read { Reads (spec.guarded_read self.now.tokens.now table.now (part_in self.now.rules.now self.now.tokens.now self.now.room self.now.number part.now).step place) result }
+    {
+        if stands(self.tokens, table, place) {
+            self.scan(memo, part, place)
+        } else {
+            Ok(Step::failed(place))
+        }
+    }
+
     // As many of a part as derive.
     #[inline(never)]
     #[cycle(scan)]
@@ -402,6 +444,9 @@ impl<'a, F: Fn(&mut Memo, &[Rule], &[Token], Room, usize, usize) -> Result<Step,
         ensures sound { Sound self.now.rules.now self.now.tokens.now memo.new }
         ensures read { Reads ((within self.now.rules.now self.now.tokens.now self.now.room.rules self.now.room.words self.now.number).step place) result }
     {
+        if is_barred(self.tokens, &rule.part, place) {
+            return Ok(Step::failed(place));
+        }
         if let Some(step) = memo.find(self.number, place) {
             if fits(step.need, self.room) {
                 return Ok(step);

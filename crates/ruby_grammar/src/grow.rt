@@ -3,11 +3,11 @@
 ghost use Rattle.std.specs.Prelude.{◌≡◌, ◌+◌, ◌<◌, ◌++◌, ◌∷◌, [], length, slice_get, None, Some, IfOk, OnOk};
 ghost use Rattle.ruby_grammar.specs.declared.tree.Tree.TheVariants as tree;
 ghost use Rattle.ruby_grammar.specs.declared.room.Budget.TheVariants as budget;
-ghost use Rattle.ruby_grammar.specs.Steps.{token_read};
+ghost use Rattle.ruby_grammar.specs.Steps.{token_read, guarded_read};
 ghost use Rattle.ruby_grammar.specs.Meaning.{called, opens, within, part_in, next_of, row_trees, chained_trees, place_or};
 ghost use Rattle.ruby_grammar.specs.Memos.{Sound, Grows, grown, grown_behind, step_of, work};
 
-use crate::engine::{links_limit, rule_at, scan_part, token_at};
+use crate::engine::{is_barred, links_limit, rule_at, scan_part, stands, token_at};
 use crate::grown::Grown;
 use crate::memo::Memo;
 use crate::part::{Part, Rule};
@@ -274,13 +274,21 @@ impl<'a, G: Fn(Global, &mut Memo, &[Rule], &[Token], Room, usize, usize) -> Mem<
                 let grown = self.grow(memo, first.get(), place)?;
                 self.behind(memo, grown, second.get())
             }
-            Part::Either(first, second) => match self.asked(memo, first.get(), place)? {
-                None => Ok(none(self.alloc)),
-                Some(step) => match step.next {
-                    Some(_) => self.grow(memo, first.get(), place),
-                    None => self.grow(memo, second.get(), place),
-                },
-            },
+            Part::Either(first, second) => {
+                if is_barred(self.tokens, second.get(), place) {
+                    let grown = self.grow(memo, first.get(), place)?;
+                    if grown.next.is_some() {
+                        return Ok(grown);
+                    }
+                }
+                match self.asked(memo, first.get(), place)? {
+                    None => Ok(none(self.alloc)),
+                    Some(step) => match step.next {
+                        Some(_) => self.grow(memo, first.get(), place),
+                        None => self.grow(memo, second.get(), place),
+                    },
+                }
+            }
             Part::Not(_) => self.without(memo, part, place),
             Part::Label(name, inner) => self.labelled(memo, *name, inner.get(), place),
             Part::Chained(name, inner) => self.chained(memo, *name, inner.get(), place),
@@ -301,6 +309,25 @@ impl<'a, G: Fn(Global, &mut Memo, &[Rule], &[Token], Room, usize, usize) -> Mem<
                 let next = self.next(memo, part, place)?;
                 self.ended(memo, next, inner.get(), place)
             }
+            Part::Guarded(table, inner) => self.guarded(memo, table, inner.get(), place),
+        }
+    }
+
+    // The trees of a part, where a table lets the token stand that stands here.
+    #[inline(never)]
+    #[cycle(grow)]
+    fn guarded(&self, memo: &mut Memo, table: &Seq<bool>, part: &Part, place: usize) -> Mem<Grown>
+        requires grows { Grows (work (length self.now.rules.now) self.now.room self.now.number) self.now.rules.now (G.pre self.now.grow) (G.post self.now.grow) }
+        requires sound { Sound self.now.rules.now self.now.tokens.now memo.old }
+        ensures sound { Sound self.now.rules.now self.now.tokens.now memo.new }
+        ensures grown { IfOk result (λ g. g ≡ record { next = next_of (guarded_read self.now.tokens.now table.now (part_in self.now.rules.now self.now.tokens.now self.now.room self.now.number part.now).step place); trees = (part_in self.now.rules.now self.now.tokens.now self.now.room self.now.number part.now).trees place }) }
+    {
+        let grown = self.grow(memo, part, place)?;
+        if stands(self.tokens, table, place) {
+            Ok(grown)
+        } else {
+            let Grown { next: _, trees } = grown;
+            Ok(Grown { next: None, trees })
         }
     }
 

@@ -6,8 +6,10 @@
 #![tactic(auto)]
 
 mod engine;
+mod firsts;
 mod grow;
 mod grown;
+mod guarded;
 pub mod make;
 mod memo;
 mod part;

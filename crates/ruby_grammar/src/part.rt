@@ -31,6 +31,8 @@ pub enum Part {
     Open(Budget, usize),
     /// The part, where the label that ended last in it is in the table.
     Ended(Seq<bool>, Boxed<Part>),
+    /// The part, where a token stands of which the table says that the part may begin with it; kinds past the table's end may stand.
+    Guarded(Seq<bool>, Boxed<Part>),
 }
 
 /// A rule of a grammar.

@@ -1,6 +1,6 @@
 //! Sets of tokens.
 
-ghost use Rattle.std.specs.Prelude.{◌≡◌};
+ghost use Rattle.std.specs.Prelude.{◌≡◌, Some};
 ghost use Rattle.ruby_grammar.specs.Tokens as spec;
 
 use crate::token::Token;
@@ -32,6 +32,16 @@ pub fn in_table(table: &Seq<bool>, number: u8) -> bool
     match table.get(usize::from(number)) {
         None => false,
         Some(is_in) => *is_in,
+    }
+}
+
+// Whether a token may stand, by a table of kinds in which those past its end may.
+pub fn may_stand(table: &Seq<bool>, token: Token) -> bool
+    ensures { result ≡ spec.may_stand table.now (Some token) }
+{
+    match table.get(usize::from(token.kind)) {
+        None => true,
+        Some(may) => *may,
     }
 }
 

@@ -138,14 +138,17 @@ impl Step {
         }
     }
 
-    /// This, with a name as its mark.
+    /// This, with a name as its mark where it derives.
     pub fn marked(self, name: u8) -> Step
         ensures { result ≡ spec.marked name self }
     {
         Step {
             far: self.far,
             next: self.next,
-            mark: Some(name),
+            mark: match self.next {
+                None => self.mark,
+                Some(_) => Some(name),
+            },
             need: self.need,
         }
     }

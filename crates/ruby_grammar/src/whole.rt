@@ -5,6 +5,7 @@ ghost use Rattle.std.specs.Prelude.{◌≡◌};
 
 use crate::engine::read_rule;
 use crate::grow::grow_rule;
+use crate::guarded::guarded_rules;
 use crate::memo::Memo;
 use crate::part::Grammar;
 use crate::refusal::Refusal;
@@ -24,7 +25,7 @@ fn budgets_limit() -> usize
 
 /// The trees that the grammar's first rule derives from the first token on. Where it derives nothing, the fault is `Syntax` with the
 /// farthest place at which something that was tried failed; where a rule or a link too many begins first, `TooDeep` with that place.
-#[tactic(auto, using(crate::proofs::Kept::new_sound))]
+#[tactic(auto, using(crate::proofs::Kept::new_sound, crate::proofs::Guards::within_guarded))]
 pub fn parse(alloc: Global, grammar: &Grammar, tokens: &[Token]) -> Result<Seq<Tree>, Fault>
     ensures { Answers (parsed grammar.now tokens.now) result }
 {
@@ -32,7 +33,11 @@ pub fn parse(alloc: Global, grammar: &Grammar, tokens: &[Token]) -> Result<Seq<T
         Ok(memo) => memo,
         Err(NoMemory) => return Err(Fault::NoMemory),
     };
-    let rules = grammar.rules.as_slice();
+    let guarded = match guarded_rules(alloc, grammar.rules.as_slice()) {
+        Ok(rules) => rules,
+        Err(NoMemory) => return Err(Fault::NoMemory),
+    };
+    let rules = guarded.as_slice();
     let room = Room {
         rules: budgets_limit(),
         words: budgets_limit(),
