@@ -1,5 +1,5 @@
 -- What a step gives is told by what there is behind it of the few names that may count there.
-use Rattle.std.proofs.Common.{◌≡◌, ℕ, zero, suc, Bool, true, false, not, ◌&&◌, ◌||◌, if◌then◌else◌, List, [], ◌∷◌, length, map, filter, refl, sym, ap, subst, ◌∙◌, ◌⊎◌, inl, inr, Option, None, Some}
+use Rattle.std.proofs.Common.{◌≡◌, ℕ, zero, suc, Bool, true, false, not, ◌&&◌, ◌||◌, if◌then◌else◌, List, [], ◌∷◌, ◌++◌, length, map, filter, refl, sym, ap, subst, ◌∙◌, ◌⊎◌, inl, inr, Option, None, Some}
 use Rattle.std.specs.Bool.{Decides}
 use Rattle.std.specs.List.{IsDistinct, list_any}
 use Rattle.std.specs.Map.{keys_of}
@@ -19,6 +19,7 @@ use Rattle.method_steps.specs.Steps.{alive, declared_from, elsewhere}
 use Rattle.method_steps.proofs.AliveLemmas.{OldAlike, each_living, same_living}
 use Rattle.method_steps.proofs.SlotsLive.{Each, each_as}
 use Rattle.line_members.specs.Along.{HasGiven, IsListed, is_given, is_wanted, wants}
+use Rattle.line_members.proofs.EntryLemmas.{seen_more}
 use Rattle.line_members.proofs.CountLemmas.{any_map, any_placed_by, living_is_given, of_name_found, or_left, or_right}
 use Rattle.line_members.proofs.WordLemmas.{same_both_ways, same_of_itself, true_not_false, word_decides}
 
@@ -39,6 +40,22 @@ pub noted_copy : {W : Type 0} (old new : List (List ℕ × W)) (word name : List
     ((other : List ℕ) → by_name new other ≡ (if same_word word other then Some w else by_name old other)) →
     (other : List ℕ) → is_some (by_name new other) ≡ (is_some (by_name old other) || same_word other name)
 noted_copy old new word name w same put other = noted old new word w put other ∙ ap (λ n. is_some (by_name old other) || same_word other n) same
+
+-- the same in a list, at whose end the name is put
+pub added_copy : {W : Type 0} (old new : List (List ℕ × W)) (word name : List ℕ) (w : W) → word ≡ name →
+    new ≡ old ++ (word, w) ∷ [] →
+    (other : List ℕ) → is_some (by_name new other) ≡ (is_some (by_name old other) || same_word other name)
+added_copy old new word name w same put other =
+    ap (λ es. is_some (by_name es other)) put
+    ∙ seen_more old (word, w) other
+    ∙ ap (λ n. same_word other n || is_some (by_name old other)) same
+    ∙ either_order (same_word other name) (is_some (by_name old other))
+  where
+    either_order : (a b : Bool) → (a || b) ≡ (b || a)
+    either_order true true = refl
+    either_order true false = refl
+    either_order false true = refl
+    either_order false false = refl
 
 -- ---- the declarations of a name
 

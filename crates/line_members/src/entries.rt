@@ -29,6 +29,38 @@ pub(crate) fn without<V: Drop, W>(
     Ok(others)
 }
 
+/// The entries of two lists, one list after the other, without those of the second whose names are among these few.
+pub(crate) fn in_front_of_others<V: Drop, W>(
+    first: Seq<Shared<(Text, V)>>,
+    second: Seq<Shared<(Text, V)>>,
+    names: &[(Text, W)],
+) -> Mem<Seq<Shared<(Text, V)>>>
+    ensures { IfOk result (λ both. both ≡ first ++ filter (λ (e : List ℕ × V). not (is_some (by_name names.now e.0))) second) }
+{
+    let mut both = first.into_vec();
+    both.reserve(second.len())?;
+    for entry in second.into_vec() {
+        if !has_name(names, &entry.get().0) {
+            both.push(entry)?;
+        }
+    }
+    Ok(Seq::from_vec(both))
+}
+
+// Whether a name is among these few.
+fn has_name<W>(names: &[(Text, W)], name: &Text) -> bool
+    ensures { result ≡ is_some (by_name names.now name.now) }
+{
+    let mut rest = names;
+    while let [entry, more @ ..] = rest {
+        if *name == entry.0 {
+            return true;
+        }
+        rest = more;
+    }
+    false
+}
+
 /// The entries of two lists, one list after the other.
 pub(crate) fn joined<V: Drop>(
     first: Seq<Shared<(Text, V)>>,
@@ -49,20 +81,20 @@ pub(crate) fn shared<V: Drop>(
 ) -> Mem<Seq<Shared<(Text, V)>>>
     ensures { IfOk result (λ same. same ≡ entries.now) }
 {
-    let mut same = Seq::new(alloc);
+    let mut same = Vec::with_capacity(alloc, entries.len())?;
     let mut rest = entries;
     while let [entry, more @ ..] = rest {
         same.push(entry.share()?)?;
         rest = more;
     }
-    Ok(same)
+    Ok(Seq::from_vec(same))
 }
 
 /// The same entries but those of the name `new`, in another list.
 pub(crate) fn shared_but_new(alloc: Global, methods: &[Shared<(Text, Method)>]) -> Mem<Methods>
     ensures { IfOk result (λ same. same ≡ filter (λ (e : List ℕ × Method). not (same_word e.0 (codes "new"))) methods.now) }
 {
-    let mut same = Seq::new(alloc);
+    let mut same = Vec::with_capacity(alloc, methods.len())?;
     let mut rest = methods;
     while let [entry, more @ ..] = rest {
         if !is_new(entry) {
@@ -70,7 +102,7 @@ pub(crate) fn shared_but_new(alloc: Global, methods: &[Shared<(Text, Method)>]) 
         }
         rest = more;
     }
-    Ok(same)
+    Ok(Seq::from_vec(same))
 }
 
 // Whether an entry is that of the name `new`.

@@ -9,7 +9,7 @@ ghost use Rattle.line_members.specs.Along.{is_given, is_wanted, or_behind, wants
 
 use method_steps::{NameTable, copy_method};
 use sig_rules::{GivenMethod, Method, Shared, What};
-use src_text::{Mem, Text};
+use src_text::{Mem, Seq, Text};
 use std::alloc::Global;
 
 /// Some names.
@@ -26,6 +26,27 @@ pub(crate) fn given_names(alloc: Global, given: &[GivenMethod]) -> Mem<NameSet>
         rest = more;
     }
     Ok(names)
+}
+
+/// The same in a list, which is quicker for a few.
+pub(crate) fn given_words(alloc: Global, given: &[GivenMethod]) -> Mem<Seq<(Text, ())>>
+    ensures { IfOk result (λ names. (name : List ℕ) → is_some (by_name names name) ≡ is_given given.now name) }
+{
+    let mut names = Seq::new(alloc);
+    let mut rest = given;
+    while let [method, more @ ..] = rest {
+        add(&mut names, &method.name)?;
+        rest = more;
+    }
+    Ok(names)
+}
+
+// One name more in a list.
+fn add(names: &mut Seq<(Text, ())>, name: &Text) -> Mem<()>
+    ensures { OnOk result ((other : List ℕ) → is_some (by_name names.new other) ≡ (is_some (by_name names.old other) || same_word other name.now)) }
+{
+    let word = name.clone()?;
+    names.push((word, ()))
 }
 
 /// The names of which what is found behind a step may count for the methods that are given there.

@@ -10,13 +10,16 @@ ghost use Rattle.sig_rules.specs.Worlds.{by_name};
 ghost use Rattle.method_steps.specs.Steps.{declared_from};
 ghost use Rattle.line_members.specs.Along.{AddsMade, HasGiven, IsListed, IsTaken, named_new};
 
-use crate::entries::{Methods, joined, method_named, without};
-use crate::few::{NameSet, copies_of, given_names, wanted_names};
+use crate::entries::{Methods, in_front_of_others, joined, method_named, without};
+use crate::few::{NameSet, copies_of, given_names, given_words, wanted_names};
 use crate::given::methods_at;
 use method_steps::{Making, NameTable, methods_from};
 use sig_rules::{GivenMethod, Method, Names, Shared, Step};
 use src_text::{Mem, Seq, Text};
 use std::alloc::Global;
+
+// With so many names at most, each name is compared with all of them.
+const MOST_COMPARED: usize = 8;
 
 /// The methods that are declared along these steps, each by the first step that declares it, in the order in which they are first seen,
 /// by those that are declared from one of the steps on.
@@ -72,6 +75,24 @@ fn with_given<M: Making>(
     if given.is_empty() {
         return Ok(behind);
     }
+    if given.len() > MOST_COMPARED {
+        return with_many(alloc, making, steps, behind, given);
+    }
+    let names = given_words(alloc, given.as_slice())?;
+    let mut found = found_there(alloc, making, steps, &behind, given)?;
+    in_front_of_few(alloc, &mut found, names.as_slice(), behind)
+}
+
+// The same, where so many are given that each name behind it is looked up in a table.
+fn with_many<M: Making>(
+    alloc: Global,
+    making: &M,
+    steps: &[Shared<Step>],
+    behind: Methods,
+    given: Seq<GivenMethod>,
+) -> Mem<Methods>
+    ensures { (step : Step) (rest : List Step) → steps.now ≡ step ∷ rest → IsDistinct same_word (keys_of behind) → IfOk result (IsListed (declared_from (M.made making.now) step rest (by_name behind) given)) }
+{
     let names = given_names(alloc, given.as_slice())?;
     let mut found = found_there(alloc, making, steps, &behind, given)?;
     in_front(alloc, &mut found, names, behind)
@@ -105,6 +126,19 @@ fn in_front(
     let names = names.into_entries(alloc)?;
     let own = taken(alloc, found, names.as_slice())?;
     joined(own, others)
+}
+
+// The same of a few names.
+fn in_front_of_few(
+    alloc: Global,
+    found: &mut NameTable<Method>,
+    names: &[(Text, ())],
+    behind: Methods,
+) -> Mem<Methods>
+    ensures { IsDistinct same_word (keys_of behind) → IfOk result (IsListed (λ name. if is_some (by_name names.now name) then by_name found.old name else by_name behind name)) }
+{
+    let own = taken(alloc, found, names)?;
+    in_front_of_others(own, behind, names)
 }
 
 // What is found of these names, in their order.
