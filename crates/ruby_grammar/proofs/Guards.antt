@@ -1,24 +1,21 @@
 -- Guards change nothing of what a grammar derives.
-use Rattle.std.proofs.Common.{◌≡◌, inl, inr, ℕ, zero, suc, ◌<◌, ◌+◌, ◌==◌, max, Bool, true, false, ◌||◌, ◌&&◌, if◌then◌else◌, List, [], ◌∷◌, ◌++◌, length, map, slice_get, Option, Some, None, option_map, Result, Ok, Err, refl, sym, ap, subst, ◌∙◌, arith}
+use Rattle.std.proofs.Common.{◌≡◌, inl, inr, ℕ, zero, suc, ◌+◌, ◌==◌, max, Bool, true, false, ◌||◌, ◌&&◌, if◌then◌else◌, List, [], ◌∷◌, ◌++◌, length, map, slice_get, Option, Some, None, option_map, Ok, refl, sym, ap, subst, ◌∙◌, arith}
 use Rattle.std.proofs.Math.Path.{fun_ext}
 use Rattle.std.proofs.lemmas.Option.{slice_get-map}
 use Rattle.std.proofs.lemmas.Bool.{cases_lt}
 use Rattle.std.proofs.lemmas.Grind.{common_steps}
 use Rattle.ruby_grammar.specs.declared.token.Token.{Token}
 use Rattle.ruby_grammar.specs.declared.set.TokenSet.{TokenSet}
-use Rattle.ruby_grammar.specs.declared.room.Room.{Room}
 use Rattle.ruby_grammar.specs.declared.room.Budget.{Budget}
 use Rattle.ruby_grammar.specs.declared.room.Budget.TheVariants as budget
-use Rattle.ruby_grammar.specs.declared.step.Step.{Step}
-use Rattle.ruby_grammar.specs.declared.tree.Tree.{Tree}
 use Rattle.ruby_grammar.specs.declared.part.Part.{Part, roll-Part}
 use Rattle.ruby_grammar.specs.declared.part.Part.TheVariants as p
 use Rattle.ruby_grammar.specs.declared.part.Rule.{Rule}
 use Rattle.ruby_grammar.specs.declared.part.Part.TheOpen.{Part-F}
 use Rattle.ruby_grammar.specs.declared.part.Part.TheFolds.{fold-roll-Part, map-Part, ind-Part}
-use Rattle.ruby_grammar.specs.Tokens.{or_false, or_true, has, blank_fits, may_stand}
-use Rattle.ruby_grammar.specs.Steps.{Reading, passed, failed, on_step, token_step, token_read, go_on, both_read, or_try, either_read, or_else, marked, marked_read, ended_step, ended_read, guarded_read}
-use Rattle.ruby_grammar.specs.Meaning.{Meaning, nothing, means_layer, means, rule_means, called, inside, within, opens, opens_rules, opens_words, counted, too_deep}
+use Rattle.ruby_grammar.specs.Tokens.{or_false, or_true, blank_fits, may_stand}
+use Rattle.ruby_grammar.specs.Steps.{Reading, passed, failed, on_step, token_step, go_on, both_read, or_try, either_read, or_else, marked, marked_read, ended_step, ended_read, guarded_read}
+use Rattle.ruby_grammar.specs.Meaning.{Meaning, nothing, means_layer, means, rule_means, called, inside, within, opens, opens_rules, opens_words, counted}
 use Rattle.ruby_grammar.specs.Firsts.{First, union, first_of_either, known, first_layer, first, first_of_rule, firsts, is_token, guarded_by, guard, guarded_layer, guarded, guarded_rule, guarded_rules}
 use Rattle.ruby_grammar.proofs.Within.{within_inside, called_below, called_above}
 

@@ -1,9 +1,11 @@
-pub mod Behind
-pub mod Choices
+pub mod Extends
+pub mod Forests
 pub mod Guards
 pub mod Keeps
 pub mod Kept
+pub mod Knots
 pub mod Rooms
+pub mod SameTrees
 pub mod Turns
 pub mod Within
 pub mod Worked

@@ -1,17 +1,16 @@
 -- Worked rows of readings, computed.
-use Rattle.std.proofs.Common.{◌≡◌, ℕ, zero, suc, Bool, true, false, List, [], ◌∷◌, slice_get, Option, Some, None, Result, Ok, Err, refl, sym, ap, ◌∙◌}
+use Rattle.std.proofs.Common.{◌≡◌, ℕ, zero, suc, true, false, List, [], ◌∷◌, Some, None, Ok, Err, refl, sym, ap, ◌∙◌}
 use Rattle.ruby_grammar.specs.declared.token.Token.{Token}
 use Rattle.ruby_grammar.specs.declared.set.Blank.TheVariants as blank
 use Rattle.ruby_grammar.specs.declared.set.TokenSet.{TokenSet}
 use Rattle.ruby_grammar.specs.declared.room.Budget.{Budget}
 use Rattle.ruby_grammar.specs.declared.room.Budget.TheVariants as budget
-use Rattle.ruby_grammar.specs.declared.step.Step.{Step}
 use Rattle.ruby_grammar.specs.declared.part.Rule.{Rule}
 use Rattle.ruby_grammar.specs.declared.part.Part.TheVariants as p
 use Rattle.ruby_grammar.specs.declared.part.Part.TheOpen.{Part-F}
 use Rattle.ruby_grammar.specs.declared.part.Part.TheFolds.{fold-roll-Part}
-use Rattle.ruby_grammar.specs.Steps.{Reading, no_room, passed, failed, on_step, token_read, both_read, either_read, turns, no_more, full_chain, not_read, marked_read, counted_step, ended_read}
-use Rattle.ruby_grammar.specs.Meaning.{Meaning, links, means, means_layer, inside, within, opens}
+use Rattle.ruby_grammar.specs.Steps.{no_room, passed, failed, on_step, token_read, both_read, either_read, turns, no_more, full_chain, not_read, marked_read, counted_step, ended_read}
+use Rattle.ruby_grammar.specs.Meaning.{Meaning, links, means, means_layer, within, opens}
 use Rattle.ruby_grammar.proofs.Within.{within_inside}
 
 -- ---- tokens of kinds 0 and 1

@@ -1,4 +1,6 @@
 pub mod Firsts
+pub mod Forests
+pub mod Knots
 pub mod Meaning
 pub mod Memos
 pub mod Parsed

@@ -7,28 +7,34 @@
 
 mod engine;
 mod firsts;
-mod grow;
-mod grown;
+mod forest;
 mod guarded;
 pub mod make;
 mod memo;
 mod part;
+mod read;
 mod refusal;
 mod room;
 mod set;
 mod step;
+mod store;
 mod token;
 mod tree;
+mod trees;
 mod whole;
 
+pub use forest::Forest;
 pub use memo::{Entry, Memo};
 pub use part::{Grammar, Part, Rule};
+pub use read::Read;
 pub use refusal::Refusal;
 pub use room::{Budget, Room};
 pub use set::{Blank, TokenSet};
 pub use step::Step;
+pub use store::Store;
 pub use token::Token;
 pub use tree::{Fault, Tree};
+pub use trees::{Knot, Trees};
 pub use whole::parse;
 
 #[cfg(test)]

@@ -4,7 +4,7 @@ ghost use Rattle.std.specs.Prelude.{◌≡◌, ◌++◌, ◌∷◌, [], IfSome, 
 ghost use Rattle.std.specs.List.{Contains};
 ghost use Rattle.ruby_grammar.specs.declared.memo.Entry.{Entry};
 
-use crate::step::Step;
+use crate::read::Read;
 use src_text::Mem;
 use std::alloc::Global;
 use std::marker::Model;
@@ -14,7 +14,7 @@ use std::marker::Model;
 pub struct Entry {
     pub rule: usize,
     pub place: usize,
-    pub step: Step,
+    pub read: Read,
     /// How many entries there were when the entry of the same place before this was the last; 0 where there is none.
     pub before: usize,
 }
@@ -51,10 +51,10 @@ impl Memo {
         })
     }
 
-    /// The step that a rule reads from a place on, where it is kept.
+    /// What a rule reads from a place on, where it is kept.
     #[inline(never)]
-    pub fn find(&self, rule: usize, place: usize) -> Option<Step>
-        ensures { IfSome result (λ step. (before : ℕ) × Contains self.now (record { rule = rule; place = place; step = step; before = before })) }
+    pub fn find(&self, rule: usize, place: usize) -> Option<Read>
+        ensures { IfSome result (λ read. (before : ℕ) × Contains self.now (record { rule = rule; place = place; read = read; before = before })) }
     {
         let mut left = match self.last.get(place) {
             Some(last) => *last,
@@ -65,7 +65,7 @@ impl Memo {
             match self.entries.get(at) {
                 Some(entry) => {
                     if entry.rule == rule && entry.place == place {
-                        return Some(entry.step);
+                        return Some(entry.read);
                     }
                     left = if entry.before < left { entry.before } else { 0 };
                 }
@@ -77,8 +77,8 @@ impl Memo {
 
     /// Keeps what a rule reads from a place on.
     #[inline(never)]
-    pub fn store(&mut self, rule: usize, place: usize, step: Step) -> Mem<()>
-        ensures ok { OnOk result ((before : ℕ) × (self.new ≡ self.old ++ record { rule = rule; place = place; step = step; before = before } ∷ [])) }
+    pub fn store(&mut self, rule: usize, place: usize, read: Read) -> Mem<()>
+        ensures ok { OnOk result ((before : ℕ) × (self.new ≡ self.old ++ record { rule = rule; place = place; read = read; before = before } ∷ [])) }
         ensures err { OnErr result (self.new ≡ self.old) }
     {
         let before = match self.last.get(place) {
@@ -88,7 +88,7 @@ impl Memo {
         self.entries.push(Entry {
             rule,
             place,
-            step,
+            read,
             before,
         })?;
         if place < self.last.len() {

@@ -1,11 +1,9 @@
 //! What is read from a place on, without its trees.
 
-ghost use Rattle.std.specs.Prelude.{◌≡◌, max, Ok};
-ghost use Rattle.ruby_grammar.specs.Memos.{Reads};
+ghost use Rattle.std.specs.Prelude.{◌≡◌, max};
 ghost use Rattle.ruby_grammar.specs.Steps as spec;
 
-use crate::refusal::Refusal;
-use crate::room::{Budget, Room};
+use crate::room::Room;
 
 /// A reading from a place on that isn't too deep.
 #[derive(Clone, Copy, Debug, PartialEq, Eq)]
@@ -150,26 +148,6 @@ impl Step {
                 Some(_) => Some(name),
             },
             need: self.need,
-        }
-    }
-
-    /// This, counted as open in a budget. The need is never more than the room, so the sum is always there.
-    pub fn counted(self, budget: Budget) -> Result<Step, Refusal>
-        ensures { Reads (Ok (spec.counted_step budget self)) result }
-    {
-        let Room { rules, words } = self.need;
-        let more = match budget {
-            Budget::Rules => (rules.checked_add(1), Some(words)),
-            Budget::Words => (Some(rules), words.checked_add(1)),
-        };
-        match more {
-            (Some(rules), Some(words)) => Ok(Step {
-                far: self.far,
-                next: self.next,
-                mark: self.mark,
-                need: Room { rules, words },
-            }),
-            _ => Err(Refusal::NoMemory),
         }
     }
 }

@@ -4,12 +4,13 @@ ghost use Rattle.ruby_grammar.specs.Parsed.{budgets, parsed, Answers};
 ghost use Rattle.std.specs.Prelude.{◌≡◌};
 
 use crate::engine::read_rule;
-use crate::grow::grow_rule;
+use crate::forest::Forest;
 use crate::guarded::guarded_rules;
 use crate::memo::Memo;
 use crate::part::Grammar;
 use crate::refusal::Refusal;
 use crate::room::Room;
+use crate::store::Store;
 use crate::token::Token;
 use crate::tree::{Fault, Tree};
 use src_text::{NoMemory, Seq};
@@ -29,7 +30,7 @@ fn budgets_limit() -> usize
 pub fn parse(alloc: Global, grammar: &Grammar, tokens: &[Token]) -> Result<Seq<Tree>, Fault>
     ensures { Answers (parsed grammar.now tokens.now) result }
 {
-    let mut memo = match Memo::new(alloc, tokens.len() + 1) {
+    let memo = match Memo::new(alloc, tokens.len() + 1) {
         Ok(memo) => memo,
         Err(NoMemory) => return Err(Fault::NoMemory),
     };
@@ -37,18 +38,30 @@ pub fn parse(alloc: Global, grammar: &Grammar, tokens: &[Token]) -> Result<Seq<T
         Ok(rules) => rules,
         Err(NoMemory) => return Err(Fault::NoMemory),
     };
-    let rules = guarded.as_slice();
+    let mut store = Store {
+        memo,
+        forest: Forest::new(alloc),
+    };
     let room = Room {
         rules: budgets_limit(),
         words: budgets_limit(),
     };
-    match read_rule(&mut memo, rules, tokens, room, grammar.start, 0) {
+    let read = read_rule(
+        &mut store,
+        guarded.as_slice(),
+        tokens,
+        room,
+        grammar.start,
+        0,
+    );
+    let Store { memo: _, forest } = store;
+    match read {
         Err(Refusal::TooDeep(place)) => Err(Fault::TooDeep(place)),
         Err(Refusal::NoMemory) => Err(Fault::NoMemory),
-        Ok(step) => match step.next {
-            None => Err(Fault::Syntax(step.far)),
-            Some(_) => match grow_rule(alloc, &mut memo, rules, tokens, room, grammar.start, 0) {
-                Ok(grown) => Ok(grown.trees),
+        Ok(read) => match read.step.next {
+            None => Err(Fault::Syntax(read.step.far)),
+            Some(_) => match forest.made(alloc, read.trees) {
+                Ok(trees) => Ok(trees),
                 Err(NoMemory) => Err(Fault::NoMemory),
             },
         },
