@@ -1,11 +1,13 @@
+pub mod Cells
 pub mod Extends
-pub mod Forests
 pub mod Guards
 pub mod Keeps
-pub mod Kept
-pub mod Knots
+pub mod Reading
 pub mod Rooms
 pub mod SameTrees
-pub mod Turns
+pub mod Soundness
+pub mod Told
+pub mod Trails
+pub mod Turning
 pub mod Within
 pub mod Worked

@@ -10,11 +10,10 @@ use Rattle.ruby_grammar.specs.declared.room.Room.{Room}
 use Rattle.ruby_grammar.specs.declared.part.Rule.{Rule}
 use Rattle.ruby_grammar.specs.declared.step.Step.{Step}
 use Rattle.ruby_grammar.specs.declared.tree.Tree.{Tree}
-use Rattle.ruby_grammar.specs.declared.read.Read.{Read}
-use Rattle.ruby_grammar.specs.declared.refusal.Refusal.{Refusal}
-use Rattle.ruby_grammar.specs.Forests.{Bears}
+use Rattle.ruby_grammar.specs.declared.outcome.Outcome.{Outcome}
+use Rattle.ruby_grammar.specs.declared.trail.Trail.{Trail}
 use Rattle.ruby_grammar.specs.Meaning.{Meaning, nothing, rule_means, called, inside, within, opens, part_in}
-use Rattle.ruby_grammar.specs.Memos.{Reads, work}
+use Rattle.ruby_grammar.specs.Memos.{Goes, work}
 
 pub within_inside : (rules : List Rule) (tokens : List Token) (a b r : ℕ) → within rules tokens a b r ≡ inside rules tokens (opens rules tokens a b) r
 unfolding within
@@ -48,11 +47,8 @@ called_above rules tokens open_as (suc n) r above = by_test (r == n) (rule_means
 pub called_within : (rules : List Rule) (tokens : List Token) (a b n r : ℕ) → r < n → within rules tokens a b r ≡ called rules tokens (opens rules tokens a b) n r
 called_within rules tokens a b n r below = within_inside rules tokens a b r ∙ sym (called_below rules tokens (opens rules tokens a b) n r below)
 
-pub called_reads : (rules : List Rule) (tokens : List Token) (a b n r i : ℕ) (result : Result Read Refusal) → r < n → Reads ((within rules tokens a b r).step i) result → Reads ((called rules tokens (opens rules tokens a b) n r).step i) result
-called_reads rules tokens a b n r i result below = subst (λ (m : Meaning). Reads (m.step i) result) (called_within rules tokens a b n r below)
-
-pub called_bears : (rules : List Rule) (tokens : List Token) (a b n r i : ℕ) (lists : List (List Tree)) (result : Result Read Refusal) → r < n → Bears lists result ((within rules tokens a b r).trees i) → Bears lists result ((called rules tokens (opens rules tokens a b) n r).trees i)
-called_bears rules tokens a b n r i lists result below = subst (λ (m : Meaning). Bears lists result (m.trees i)) (called_within rules tokens a b n r below)
+pub called_goes : (rules : List Rule) (tokens : List Token) (a b n r i : ℕ) (lists more : List (List Tree)) (old new : Trail) (out : Outcome) → r < n → Goes ((within rules tokens a b r).step i) ((within rules tokens a b r).trees i) lists old out more new → Goes ((called rules tokens (opens rules tokens a b) n r).step i) ((called rules tokens (opens rules tokens a b) n r).trees i) lists old out more new
+called_goes rules tokens a b n r i lists more old new out below = subst (λ (m : Meaning). Goes (m.step i) (m.trees i) lists old out more new) (called_within rules tokens a b n r below)
 
 -- A rule that isn't in the list means nothing.
 pub within_none : (rules : List Rule) (tokens : List Token) (a b r : ℕ) → None ≡ slice_get rules r → within rules tokens a b r ≡ nothing
@@ -74,11 +70,8 @@ less_work rules less room r number fewer below =
 pub own_within : (rules : List Rule) (tokens : List Token) (room : Room) (r : ℕ) (rule : Rule) → slice_get rules r ≡ Some rule → part_in rules tokens room r rule.part ≡ within rules tokens room.rules room.words r
 own_within rules tokens room r rule is = ap (λ o. rule_means tokens (opens rules tokens room.rules room.words) (called rules tokens (opens rules tokens room.rules room.words) r) o) (sym is) ∙ sym (within_inside rules tokens room.rules room.words r)
 
-pub own_reads : (rules : List Rule) (tokens : List Token) (room : Room) (r i : ℕ) (rule : Rule) (result : Result Read Refusal) → slice_get rules r ≡ Some rule → Reads ((part_in rules tokens room r rule.part).step i) result → Reads ((within rules tokens room.rules room.words r).step i) result
-own_reads rules tokens room r i rule result is = subst (λ (m : Meaning). Reads (m.step i) result) (own_within rules tokens room r rule is)
-
-pub own_bears : (rules : List Rule) (tokens : List Token) (room : Room) (r i : ℕ) (lists : List (List Tree)) (rule : Rule) (result : Result Read Refusal) → slice_get rules r ≡ Some rule → Bears lists result ((part_in rules tokens room r rule.part).trees i) → Bears lists result ((within rules tokens room.rules room.words r).trees i)
-own_bears rules tokens room r i lists rule result is = subst (λ (m : Meaning). Bears lists result (m.trees i)) (own_within rules tokens room r rule is)
+pub own_goes : (rules : List Rule) (tokens : List Token) (room : Room) (r i : ℕ) (rule : Rule) (lists more : List (List Tree)) (old new : Trail) (out : Outcome) → slice_get rules r ≡ Some rule → Goes ((part_in rules tokens room r rule.part).step i) ((part_in rules tokens room r rule.part).trees i) lists old out more new → Goes ((within rules tokens room.rules room.words r).step i) ((within rules tokens room.rules room.words r).trees i) lists old out more new
+own_goes rules tokens room r i rule lists more old new out is = subst (λ (m : Meaning). Goes (m.step i) (m.trees i) lists old out more new) (own_within rules tokens room r rule is)
 
 -- What a rule's own part reads in every room and with every meaning of other rules, the rule reads.
 pub own_step : (rules : List Rule) (tokens : List Token) (room : Room) (r i : ℕ) (rule : Rule) (read : Result Step ℕ) → slice_get rules r ≡ Some rule → (part_in rules tokens room r rule.part).step i ≡ read → (within rules tokens room.rules room.words r).step i ≡ read

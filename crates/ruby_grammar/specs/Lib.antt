@@ -1,6 +1,6 @@
 pub mod Firsts
-pub mod Forests
-pub mod Knots
+pub mod Cells
+pub mod Rows
 pub mod Meaning
 pub mod Memos
 pub mod Parsed

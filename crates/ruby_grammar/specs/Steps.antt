@@ -125,16 +125,22 @@ mark_of name mark (Some next) = Some name
 abbrev pub marked : ℕ → Step → Step
 marked name s = record { far = s.far; next = s.next; mark = mark_of name s.mark s.next; need = s.need }
 
+abbrev pub marked_result : ℕ → Result Step ℕ → Result Step ℕ
+marked_result name r = on_step r (λ s. Ok (marked name s))
+
 -- this, with a name as its mark where it derives
 abbrev pub marked_read : ℕ → Reading → Reading
-marked_read name p i = on_step (p i) (λ s. Ok (marked name s))
+marked_read name p i = marked_result name (p i)
 
 abbrev pub counted_step : Budget → Step → Step
 counted_step b s = record { far = s.far; next = s.next; mark = s.mark; need = one_more b s.need }
 
+abbrev pub counted_result : Budget → Result Step ℕ → Result Step ℕ
+counted_result b r = on_step r (λ s. Ok (counted_step b s))
+
 -- this, counted as open in a budget
 abbrev pub counted_read : Budget → Reading → Reading
-counted_read b p i = on_step (p i) (λ s. Ok (counted_step b s))
+counted_read b p i = counted_result b (p i)
 
 abbrev pub mark_in : List Bool → Option ℕ → Bool
 mark_in labels None = false

@@ -11,30 +11,30 @@ mod forest;
 mod guarded;
 pub mod make;
 mod memo;
+mod outcome;
 mod part;
-mod read;
-mod refusal;
 mod room;
+mod row;
 mod set;
 mod step;
 mod store;
 mod token;
+mod trail;
 mod tree;
-mod trees;
 mod whole;
 
 pub use forest::Forest;
-pub use memo::{Entry, Memo};
+pub use memo::{Entry, Kept, Memo};
+pub use outcome::Outcome;
 pub use part::{Grammar, Part, Rule};
-pub use read::Read;
-pub use refusal::Refusal;
 pub use room::{Budget, Room};
+pub use row::{Cell, Row};
 pub use set::{Blank, TokenSet};
 pub use step::Step;
 pub use store::Store;
 pub use token::Token;
+pub use trail::Trail;
 pub use tree::{Fault, Tree};
-pub use trees::{Knot, Trees};
 pub use whole::parse;
 
 #[cfg(test)]

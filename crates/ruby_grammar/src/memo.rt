@@ -3,18 +3,31 @@
 ghost use Rattle.std.specs.Prelude.{◌≡◌, ◌++◌, ◌∷◌, [], IfSome, IfOk, OnOk, OnErr, ℕ};
 ghost use Rattle.std.specs.List.{Contains};
 ghost use Rattle.ruby_grammar.specs.declared.memo.Entry.{Entry};
+ghost use Rattle.ruby_grammar.specs.declared.memo.Kept.{Kept};
 
-use crate::read::Read;
+use crate::row::Row;
+use crate::step::Step;
 use src_text::Mem;
 use std::alloc::Global;
 use std::marker::Model;
+
+/// What is read, and its trees: those of the second row that the first doesn't have.
+#[derive(Clone, Copy, Debug, PartialEq, Eq)]
+pub struct Kept {
+    /// The step; its mark counts only where it derives.
+    pub step: Step,
+    /// The trees before it, when it was read.
+    pub base: Row,
+    /// The trees before it, and its own.
+    pub row: Row,
+}
 
 /// What a rule reads from a place on, in each room that is enough for the step's need.
 #[derive(Clone, Copy, Debug, PartialEq, Eq)]
 pub struct Entry {
     pub rule: usize,
     pub place: usize,
-    pub read: Read,
+    pub kept: Kept,
     /// How many entries there were when the entry of the same place before this was the last; 0 where there is none.
     pub before: usize,
 }
@@ -53,8 +66,8 @@ impl Memo {
 
     /// What a rule reads from a place on, where it is kept.
     #[inline(never)]
-    pub fn find(&self, rule: usize, place: usize) -> Option<Read>
-        ensures { IfSome result (λ read. (before : ℕ) × Contains self.now (record { rule = rule; place = place; read = read; before = before })) }
+    pub fn find(&self, rule: usize, place: usize) -> Option<Kept>
+        ensures { IfSome result (λ kept. (before : ℕ) × Contains self.now (record { rule = rule; place = place; kept = kept; before = before })) }
     {
         let mut left = match self.last.get(place) {
             Some(last) => *last,
@@ -65,7 +78,7 @@ impl Memo {
             match self.entries.get(at) {
                 Some(entry) => {
                     if entry.rule == rule && entry.place == place {
-                        return Some(entry.read);
+                        return Some(entry.kept);
                     }
                     left = if entry.before < left { entry.before } else { 0 };
                 }
@@ -77,8 +90,8 @@ impl Memo {
 
     /// Keeps what a rule reads from a place on.
     #[inline(never)]
-    pub fn store(&mut self, rule: usize, place: usize, read: Read) -> Mem<()>
-        ensures ok { OnOk result ((before : ℕ) × (self.new ≡ self.old ++ record { rule = rule; place = place; read = read; before = before } ∷ [])) }
+    pub fn store(&mut self, rule: usize, place: usize, kept: Kept) -> Mem<()>
+        ensures ok { OnOk result ((before : ℕ) × (self.new ≡ self.old ++ record { rule = rule; place = place; kept = kept; before = before } ∷ [])) }
         ensures err { OnErr result (self.new ≡ self.old) }
     {
         let before = match self.last.get(place) {
@@ -88,7 +101,7 @@ impl Memo {
         self.entries.push(Entry {
             rule,
             place,
-            read,
+            kept,
             before,
         })?;
         if place < self.last.len() {

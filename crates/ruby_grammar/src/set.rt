@@ -1,6 +1,7 @@
 //! Sets of tokens.
 
-ghost use Rattle.std.specs.Prelude.{◌≡◌, Some};
+ghost use Rattle.std.specs.Prelude.{◌≡◌, ◌+◌, Some, Ok, if◌then◌else◌};
+ghost use Rattle.ruby_grammar.specs.Steps as steps;
 ghost use Rattle.ruby_grammar.specs.Tokens as spec;
 
 use crate::token::Token;
@@ -62,5 +63,15 @@ impl TokenSet {
         ensures { result ≡ spec.has self.now token }
     {
         in_table(&self.kinds, token.kind) && blank_fits(self.blank, token.blank)
+    }
+}
+
+// Whether a token of a set stands at a place.
+pub fn stands_in(tokens: &[Token], set: &TokenSet, place: usize) -> bool
+    ensures { steps.token_read tokens.now set.now place ≡ Ok (if result then steps.passed (place + 1) else steps.failed place) }
+{
+    match tokens.get(place) {
+        None => false,
+        Some(token) => set.has(*token),
     }
 }

@@ -7,11 +7,13 @@ use crate::engine::read_rule;
 use crate::forest::Forest;
 use crate::guarded::guarded_rules;
 use crate::memo::Memo;
+use crate::outcome::Outcome;
 use crate::part::Grammar;
-use crate::refusal::Refusal;
 use crate::room::Room;
+use crate::row::Row;
 use crate::store::Store;
 use crate::token::Token;
+use crate::trail::Trail;
 use crate::tree::{Fault, Tree};
 use src_text::{NoMemory, Seq};
 use std::alloc::Global;
@@ -26,7 +28,7 @@ fn budgets_limit() -> usize
 
 /// The trees that the grammar's first rule derives from the first token on. Where it derives nothing, the fault is `Syntax` with the
 /// farthest place at which something that was tried failed; where a rule or a link too many begins first, `TooDeep` with that place.
-#[tactic(auto, using(crate::proofs::Kept::new_sound, crate::proofs::Guards::within_guarded))]
+#[tactic(auto, using(crate::proofs::Soundness::new_sound, crate::proofs::Guards::within_guarded))]
 pub fn parse(alloc: Global, grammar: &Grammar, tokens: &[Token]) -> Result<Seq<Tree>, Fault>
     ensures { Answers (parsed grammar.now tokens.now) result }
 {
@@ -41,12 +43,13 @@ pub fn parse(alloc: Global, grammar: &Grammar, tokens: &[Token]) -> Result<Seq<T
     let mut store = Store {
         memo,
         forest: Forest::new(alloc),
+        trail: Trail::from(Row { last: 0, height: 0 }),
     };
     let room = Room {
         rules: budgets_limit(),
         words: budgets_limit(),
     };
-    let read = read_rule(
+    let outcome = read_rule(
         &mut store,
         guarded.as_slice(),
         tokens,
@@ -54,16 +57,18 @@ pub fn parse(alloc: Global, grammar: &Grammar, tokens: &[Token]) -> Result<Seq<T
         grammar.start,
         0,
     );
-    let Store { memo: _, forest } = store;
-    match read {
-        Err(Refusal::TooDeep(place)) => Err(Fault::TooDeep(place)),
-        Err(Refusal::NoMemory) => Err(Fault::NoMemory),
-        Ok(read) => match read.step.next {
-            None => Err(Fault::Syntax(read.step.far)),
-            Some(_) => match forest.made(alloc, read.trees) {
-                Ok(trees) => Ok(trees),
-                Err(NoMemory) => Err(Fault::NoMemory),
-            },
+    let Store {
+        memo: _,
+        forest,
+        trail,
+    } = store;
+    match outcome {
+        Outcome::TooDeep(place) => Err(Fault::TooDeep(place)),
+        Outcome::NoMemory => Err(Fault::NoMemory),
+        Outcome::Failed => Err(Fault::Syntax(trail.far)),
+        Outcome::Passed(_) => match forest.made(alloc, trail.row) {
+            Ok(trees) => Ok(trees),
+            Err(NoMemory) => Err(Fault::NoMemory),
         },
     }
 }
