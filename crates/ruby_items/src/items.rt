@@ -7,7 +7,7 @@ ghost use Rattle.ruby_items.specs.Items as spec;
 
 use ruby_lexer::RubyToken;
 use ruby_tree::{ConstPath, Item, Node, NodeKind};
-use ruby_values::lists::listed;
+use ruby_values::lists::{listed, with_room, with_room_among};
 use ruby_values::making::{boxed, made, next, node};
 use ruby_values::places::{span_at, text_at};
 use ruby_values::queue::Queue;
@@ -19,7 +19,7 @@ use std::alloc::Global;
 pub fn items_among(alloc: Global, values: Seq<Value>) -> Mem<Seq<Placed>>
     ensures { IfOk result (λ items. items ≡ spec.items_among values) }
 {
-    let mut items = Seq::new(alloc);
+    let mut items = with_room_among(alloc, values.len())?;
     for value in values.into_vec() {
         add_item(&mut items, value)?;
     }
@@ -31,7 +31,7 @@ fn add_item(items: &mut Seq<Placed>, value: Value) -> Mem<()>
 {
     match value {
         Value::Node(node) => items.push(bare_item(node)),
-        Value::Item(item) => items.push(item),
+        Value::Item(item) => items.push(item.into_inner()),
         _ => Ok(()),
     }
 }
@@ -51,7 +51,7 @@ fn bare_item(node: Boxed<Node>) -> Placed
 pub fn plain_items(alloc: Global, items: Seq<Placed>) -> Mem<Seq<Item>>
     ensures { IfOk result (λ made. made ≡ spec.plain_items items) }
 {
-    let mut plain = Seq::new(alloc);
+    let mut plain = with_room(alloc, items.len())?;
     for placed in items.into_vec() {
         plain.push(item_of(placed))?;
     }
@@ -94,16 +94,16 @@ pub fn signed_item(
 {
     let node = next(alloc, nodes)?;
     match before {
-        Before::Star => Ok(placed(Item::Splat(node.into_inner()), at)),
-        Before::StarStar => Ok(placed(Item::DoubleSplat(node.into_inner()), at)),
+        Before::Star => placed(alloc, Item::Splat(node.into_inner()), at),
+        Before::StarStar => placed(alloc, Item::DoubleSplat(node.into_inner()), at),
         Before::Ampersand => made(alloc, at, NodeKind::BlockPass(node)),
     }
 }
 
-fn placed(item: Item, at: Span) -> Value
-    ensures { result ≡ spec.placed item at }
+fn placed(alloc: Global, item: Item, at: Span) -> Mem<Value>
+    ensures { IfOk result (λ made. made ≡ spec.placed item at) }
 {
-    Value::Item(Placed { item, at })
+    Ok(Value::Item(Boxed::new(alloc, Placed { item, at })?))
 }
 
 /// `a => b`.
@@ -116,7 +116,7 @@ pub fn pair(alloc: Global, at: Span, nodes: &mut Queue<Boxed<Node>>) -> Mem<Valu
         key: key.into_inner(),
         value: value.into_inner(),
     };
-    Ok(placed(item, at))
+    placed(alloc, item, at)
 }
 
 /// `a: b` and `a:`.
@@ -136,7 +136,7 @@ pub fn label_item(
         at: span_at(tokens, first),
         value: value.into_inner(),
     };
-    Ok(placed(item, at))
+    placed(alloc, item, at)
 }
 
 fn or_meant(

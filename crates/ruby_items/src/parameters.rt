@@ -9,6 +9,7 @@ ghost use Rattle.ruby_items.specs.Parameters as spec;
 use crate::items::without_colon;
 use ruby_lexer::{RubyKind, RubyToken};
 use ruby_tree::{Local, Node, Param};
+use ruby_values::lists::with_room_among;
 use ruby_values::making::next;
 use ruby_values::places::{kind_at, span_at, text_at};
 use ruby_values::queue::Queue;
@@ -20,7 +21,7 @@ use std::alloc::Global;
 pub fn params_among(alloc: Global, values: Seq<Value>) -> Mem<Seq<Param>>
     ensures { IfOk result (λ params. params ≡ spec.params_among values) }
 {
-    let mut params = Seq::new(alloc);
+    let mut params = with_room_among(alloc, values.len())?;
     for value in values.into_vec() {
         add_param(&mut params, value)?;
     }
@@ -31,9 +32,16 @@ fn add_param(params: &mut Seq<Param>, value: Value) -> Mem<()>
     ensures { OnOk result (params.new ≡ params.old ++ spec.param_among value) }
 {
     match value {
-        Value::Param(param) => params.push(param),
+        Value::Param(param) => params.push(param.into_inner()),
         _ => Ok(()),
     }
+}
+
+/// A parameter as a value.
+pub fn param_value(alloc: Global, param: Param) -> Mem<Value>
+    ensures { IfOk result (λ made. made ≡ value.Param param) }
+{
+    Ok(Value::Param(Boxed::new(alloc, param)?))
 }
 
 // A local variable where its word stands.
@@ -73,7 +81,7 @@ pub fn required(alloc: Global, tokens: &[RubyToken], first: usize) -> Mem<Value>
     ensures { IfOk result (λ made. made ≡ value.Param (spec.required tokens.now first)) }
 {
     let local = local_at(alloc, tokens, first)?;
-    Ok(Value::Param(Param::Required(local)))
+    param_value(alloc, Param::Required(local))
 }
 
 /// `a = b`.
@@ -87,10 +95,13 @@ pub fn optional(
 {
     let default = next(alloc, nodes)?;
     let local = local_at(alloc, tokens, first)?;
-    Ok(Value::Param(Param::Optional {
-        local,
-        default: default.into_inner(),
-    }))
+    param_value(
+        alloc,
+        Param::Optional {
+            local,
+            default: default.into_inner(),
+        },
+    )
 }
 
 /// `a:` and `a: b`.
@@ -103,7 +114,7 @@ pub fn keyword_param(
     ensures { IfOk result (λ made. made ≡ value.Param (spec.keyword_param tokens.now first nodes.old)) }
 {
     let local = local_of_label(alloc, tokens, first)?;
-    Ok(Value::Param(keyword_with(local, nodes.next())))
+    param_value(alloc, keyword_with(local, nodes.next()))
 }
 
 fn keyword_with(local: Local, default: Option<Boxed<Node>>) -> Param
@@ -131,7 +142,7 @@ pub fn taking(alloc: Global, tokens: &[RubyToken], takes: Takes, leaves: &[usize
     ensures { IfOk result (λ made. made ≡ value.Param (spec.taking tokens.now takes leaves.now)) }
 {
     let local = local_behind_sign(alloc, tokens, leaves)?;
-    Ok(Value::Param(taking_of(takes, local)))
+    param_value(alloc, taking_of(takes, local))
 }
 
 fn taking_of(takes: Takes, local: Option<Local>) -> Param
@@ -149,7 +160,7 @@ pub fn group(alloc: Global, tokens: &[RubyToken], leaves: &[usize]) -> Mem<Value
     ensures { IfOk result (λ made. made ≡ value.Param (spec.group tokens.now leaves.now)) }
 {
     let locals = locals_among(alloc, tokens, leaves)?;
-    Ok(Value::Param(Param::Group(locals)))
+    param_value(alloc, Param::Group(locals))
 }
 
 fn locals_among(alloc: Global, tokens: &[RubyToken], leaves: &[usize]) -> Mem<Seq<Local>>

@@ -8,7 +8,7 @@ ghost use Rattle.ruby_lowering.specs.Assignments as spec;
 
 use ruby_lexer::{RubyKind, RubyToken};
 use ruby_tree::{Dot, Item, ListTarget, MethodName, Node, NodeKind, Target, Variable};
-use ruby_values::lists::listed;
+use ruby_values::lists::{listed, with_room};
 use ruby_values::making::{boxed, made, next};
 use ruby_values::names::setter;
 use ruby_values::operators::sent;
@@ -52,7 +52,7 @@ fn array_of(alloc: Global, values: Seq<Node>) -> Mem<Boxed<Node>>
     ensures { IfOk result (λ made. made ≡ spec.array_of values) }
 {
     let at = span_of_nodes(values.as_slice(), 0);
-    let mut items = Seq::new(alloc);
+    let mut items = with_room(alloc, values.len())?;
     for value in values.into_vec() {
         items.push(Item::Value(value))?;
     }
@@ -228,11 +228,12 @@ pub(crate) fn list_target(alloc: Global, tokens: &[RubyToken], leaves: &[usize])
         leaf(leaves, 0)
     };
     let name = text_at(alloc, tokens, place)?;
-    Ok(Value::Target(ListTarget {
+    let target = ListTarget {
         splat,
         variable: variable_of(kind_at(tokens, place), name),
         at: span_at(tokens, place),
-    }))
+    };
+    Ok(Value::Target(Boxed::new(alloc, target)?))
 }
 
 fn variable_of(kind: RubyKind, name: Text) -> Variable

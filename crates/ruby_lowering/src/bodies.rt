@@ -123,11 +123,12 @@ pub(crate) fn rescue(
     ensures { IfOk result (λ made. made ≡ value.Rescue (spec.rescue_of classes variable (making.first nodes.old))) }
 {
     let body = next(alloc, nodes)?;
-    Ok(Value::Rescue(Rescue {
+    let rescue = Rescue {
         classes: listed(alloc, classes),
         variable,
         body: body.into_inner(),
-    }))
+    };
+    Ok(Value::Rescue(Boxed::new(alloc, rescue)?))
 }
 
 /// `def`.
@@ -171,7 +172,7 @@ pub(crate) fn value_body(alloc: Global, nodes: &mut Queue<Boxed<Node>>) -> Mem<B
 pub(crate) fn class_form(
     alloc: Global,
     at: Span,
-    path: Option<PlacedPath>,
+    path: Option<Boxed<PlacedPath>>,
     superclass: Option<Boxed<Node>>,
     nodes: &mut Queue<Boxed<Node>>,
 ) -> Mem<Value>
@@ -179,16 +180,19 @@ pub(crate) fn class_form(
 {
     let body = next(alloc, nodes)?;
     match path {
-        Some(placed) => made(
-            alloc,
-            at,
-            NodeKind::ClassBody {
-                path: placed.path,
-                path_at: placed.at,
-                superclass,
-                body,
-            },
-        ),
+        Some(placed) => {
+            let PlacedPath { path, at: path_at } = placed.into_inner();
+            made(
+                alloc,
+                at,
+                NodeKind::ClassBody {
+                    path,
+                    path_at,
+                    superclass,
+                    body,
+                },
+            )
+        }
         None => made(alloc, at, NodeKind::Nil),
     }
 }
@@ -197,22 +201,25 @@ pub(crate) fn class_form(
 pub(crate) fn module_form(
     alloc: Global,
     at: Span,
-    path: Option<PlacedPath>,
+    path: Option<Boxed<PlacedPath>>,
     nodes: &mut Queue<Boxed<Node>>,
 ) -> Mem<Value>
     ensures { IfOk result (λ made. made ≡ value.Node (spec.module_form at path (making.first nodes.old))) }
 {
     let body = next(alloc, nodes)?;
     match path {
-        Some(placed) => made(
-            alloc,
-            at,
-            NodeKind::ModuleBody {
-                path: placed.path,
-                path_at: placed.at,
-                body,
-            },
-        ),
+        Some(placed) => {
+            let PlacedPath { path, at: path_at } = placed.into_inner();
+            made(
+                alloc,
+                at,
+                NodeKind::ModuleBody {
+                    path,
+                    path_at,
+                    body,
+                },
+            )
+        }
         None => made(alloc, at, NodeKind::Nil),
     }
 }

@@ -100,10 +100,11 @@ pub(crate) fn elsif(alloc: Global, at: Span, nodes: &mut Queue<Boxed<Node>>) -> 
     ensures { IfOk result (λ made. made ≡ value.Arm (record { arm = spec.arm_in nodes.old; start = at.start })) }
 {
     let arm = arm_in(alloc, nodes)?;
-    Ok(Value::Arm(PlacedArm {
+    let placed = PlacedArm {
         arm,
         start: at.start,
-    }))
+    };
+    Ok(Value::Arm(Boxed::new(alloc, placed)?))
 }
 
 /// `case`.
@@ -137,10 +138,11 @@ pub(crate) fn when(
 {
     let values = elements(alloc, items)?;
     let body = next(alloc, nodes)?;
-    Ok(Value::When(When {
+    let when = When {
         values,
         body: body.into_inner(),
-    }))
+    };
+    Ok(Value::When(Boxed::new(alloc, when)?))
 }
 
 /// `while` and `until`.

@@ -1,8 +1,9 @@
 //! What a node of a concrete tree stands for, by what its trees stand for.
 
-ghost use Rattle.std.specs.Prelude.{◌≡◌, IfOk};
+ghost use Rattle.std.specs.Prelude.{◌≡◌, List, IfOk, IfSome};
 ghost use Rattle.std.specs.List.{fold};
 ghost use Rattle.ruby_lowering.specs.Parts.{add, gathered};
+ghost use Rattle.ruby_values.specs.declared.value.Value.{Value};
 ghost use Rattle.ruby_values.specs.declared.value.Value.TheVariants as value;
 ghost use Rattle.ruby_lowering.specs.Combining as spec;
 ghost use Rattle.ruby_items.specs.Items as items;
@@ -16,14 +17,14 @@ use crate::bodies::{
 };
 use crate::branches::{case_form, elsif, if_form, returned, unless_form, when, while_form};
 use crate::calls::{call, command, constant, dot_of, linked, word_name, yielded};
-use crate::parts::{Parts, gather};
+use crate::parts::{Parts, gather, leaves_among};
 use crate::sorts::{Sort, sort_of};
 use ruby_exprs::Label;
 use ruby_items::items::{
     Before, array, hash, items_among, label_item, pair, passed_items, signed_item,
 };
 use ruby_items::parameters::{
-    Takes, group, keyword_param, optional, params_among, required, taking, trailing,
+    Takes, group, keyword_param, optional, param_value, params_among, required, taking, trailing,
 };
 use ruby_items::texts::{heredoc, parts_among, quoted_symbol, regexp, strings, word_list};
 use ruby_lexer::{Keyword, RubyKind, RubyToken};
@@ -52,17 +53,40 @@ pub(crate) struct Place {
     pub(crate) at: Span,
 }
 
-/// What a node stands for.
+/// What a node stands for. The parts are a place for its values, in which nothing counts that is there already.
 pub(crate) fn combined(
     alloc: Global,
     tokens: &[RubyToken],
     label: Label,
     place: Place,
     values: Seq<Value>,
+    parts: &mut Parts,
 ) -> Mem<Value>
     ensures { IfOk result (λ made. made ≡ spec.combined tokens.now label place values) }
 {
-    of_sort(alloc, tokens, sort_of(label), label, place, values)
+    of_sort(alloc, tokens, sort_of(label), label, place, values, parts)
+}
+
+/// What a node stands for, where its first token alone tells, whatever its values are.
+pub(crate) fn of_first_token(
+    alloc: Global,
+    tokens: &[RubyToken],
+    label: Label,
+    place: Place,
+) -> Mem<Option<Value>>
+    ensures { IfOk result (λ made. IfSome made (λ made. (values : List Value) → made ≡ spec.combined tokens.now label place values)) }
+{
+    let at = place.at;
+    let first = place.first;
+    match label {
+        Label::Int => Ok(Some(integer(alloc, tokens, at, first)?)),
+        Label::Sym => Ok(Some(symbol(alloc, tokens, at, first)?)),
+        Label::Word => Ok(Some(keyword(alloc, at, kind_at(tokens, first))?)),
+        Label::Variable => Ok(Some(variable(alloc, tokens, at, first)?)),
+        Label::Const => Ok(Some(constant(alloc, tokens, at, false, first)?)),
+        Label::Name => Ok(Some(name(alloc, tokens, at, first)?)),
+        _ => Ok(None),
+    }
 }
 
 // What a node of a sort stands for.
@@ -73,14 +97,30 @@ fn of_sort(
     label: Label,
     place: Place,
     values: Seq<Value>,
+    parts: &mut Parts,
 ) -> Mem<Value>
     ensures { IfOk result (λ made. made ≡ spec.of_sort tokens.now sort label place values) }
 {
     match sort {
         Sort::List => list(alloc, tokens, label, place, values),
         Sort::Text => text(alloc, tokens, label, place, values),
-        _ => by_sorts(alloc, tokens, sort, label, place, values),
+        Sort::Tokens => of_leaves(alloc, tokens, label, place, values),
+        _ => by_sorts(alloc, tokens, sort, label, place, values, parts),
     }
+}
+
+// What a node stands for, of which only the leaves count.
+fn of_leaves(
+    alloc: Global,
+    tokens: &[RubyToken],
+    label: Label,
+    place: Place,
+    values: Seq<Value>,
+) -> Mem<Value>
+    ensures { IfOk result (λ made. made ≡ spec.of_tokens tokens.now label place (gathered values).leaves) }
+{
+    let leaves = leaves_among(alloc, values)?;
+    of_tokens(alloc, tokens, label, place, leaves.as_slice())
 }
 
 // What a node stands for whose values are put by their sorts first.
@@ -91,11 +131,12 @@ fn by_sorts(
     label: Label,
     place: Place,
     values: Seq<Value>,
+    parts: &mut Parts,
 ) -> Mem<Value>
     ensures { IfOk result (λ made. made ≡ spec.of_parts tokens.now sort label place (gathered values)) }
 {
-    let mut parts = Parts::new(alloc);
-    of_values(alloc, tokens, sort, label, place, values, &mut parts)
+    parts.clear(alloc);
+    of_values(alloc, tokens, sort, label, place, values, parts)
 }
 
 // What a node stands for, of which only the values by their sorts count.
@@ -293,13 +334,13 @@ fn called(
 // A value with its links, or a parameter behind the rest.
 fn linked_or_param(
     alloc: Global,
-    param: Option<Param>,
+    param: Option<Boxed<Param>>,
     nodes: &mut Queue<Boxed<Node>>,
 ) -> Mem<Value>
     ensures { IfOk result (λ made. made ≡ spec.linked_or_param param nodes.old) }
 {
     match param {
-        Some(param) => Ok(Value::Param(trailing(param))),
+        Some(param) => param_value(alloc, trailing(param.into_inner())),
         None => linked(alloc, nodes),
     }
 }

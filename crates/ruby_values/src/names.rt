@@ -9,7 +9,7 @@ use crate::places::{kind_at, leaf, text_at};
 use crate::value::{PlacedPath, Value};
 use ruby_lexer::{RubyKind, RubyToken, Sign};
 use ruby_tree::{ConstPath, MethodName};
-use src_text::{Mem, Seq, Span, Text};
+use src_text::{Boxed, Mem, Seq, Span, Text};
 use std::alloc::Global;
 
 // The texts of tokens, one behind the other.
@@ -53,10 +53,11 @@ pub fn path(alloc: Global, tokens: &[RubyToken], at: Span, leaves: &[usize]) -> 
 {
     let words = constants_among(alloc, tokens, leaves)?;
     let absolute = begins_absolute(kind_at(tokens, leaf(leaves, 0)));
-    Ok(Value::Path(PlacedPath {
+    let placed = PlacedPath {
         path: ConstPath { absolute, words },
         at,
-    }))
+    };
+    Ok(Value::Path(Boxed::new(alloc, placed)?))
 }
 
 fn constants_among(alloc: Global, tokens: &[RubyToken], leaves: &[usize]) -> Mem<Seq<Text>>

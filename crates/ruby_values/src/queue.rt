@@ -59,6 +59,13 @@ impl<T: Drop> Queue<T> {
         Ok(())
     }
 
+    /// Lets all that is left go, and keeps the memory.
+    pub fn clear(&mut self)
+        ensures { self.new ≡ [] }
+    {
+        self.items.clear();
+    }
+
     /// Takes all that is left.
     pub fn rest(&mut self, alloc: Global) -> Seq<T>
         ensures items { result ≡ self.old }

@@ -6,6 +6,7 @@ ghost use Rattle.ruby_values.specs.declared.value.Value.TheVariants as value;
 ghost use Rattle.ruby_values.specs.Making as making;
 ghost use Rattle.ruby_values.specs.Statements as spec;
 
+use crate::lists::with_room_among;
 use crate::making::{boxed, made, next};
 use crate::places::end_before;
 use crate::queue::Queue;
@@ -19,7 +20,7 @@ use std::alloc::Global;
 pub fn nodes_among(alloc: Global, values: Seq<Value>) -> Mem<Seq<Node>>
     ensures { IfOk result (λ nodes. nodes ≡ spec.nodes_among values) }
 {
-    let mut nodes = Seq::new(alloc);
+    let mut nodes = with_room_among(alloc, values.len())?;
     for value in values.into_vec() {
         add_node(&mut nodes, value)?;
     }

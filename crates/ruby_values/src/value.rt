@@ -6,6 +6,8 @@ use ruby_tree::{
 use src_text::{Boxed, Seq, Span};
 
 /// What a concrete tree stands for, as what stands around it wants it.
+///
+/// It is small, since it is moved often: what is large in it stands in a box.
 #[derive(Drop)]
 pub enum Value {
     /// Nothing that is wanted.
@@ -19,20 +21,20 @@ pub enum Value {
     /// Values beside each other, or the classes of a `rescue`.
     Nodes(Seq<Node>),
     /// An item that isn't a bare value.
-    Item(Placed),
+    Item(Boxed<Placed>),
     Items(Seq<Placed>),
-    Param(Param),
+    Param(Boxed<Param>),
     Params(Seq<Param>),
     /// The name of a method that is called, defined or an alias.
     Name(MethodName),
     /// The name of a class or a module.
-    Path(PlacedPath),
+    Path(Boxed<PlacedPath>),
     /// One of several targets.
-    Target(ListTarget),
+    Target(Boxed<ListTarget>),
     /// An `elsif`.
-    Arm(PlacedArm),
-    When(When),
-    Rescue(Rescue),
+    Arm(Boxed<PlacedArm>),
+    When(Boxed<When>),
+    Rescue(Boxed<Rescue>),
     Otherwise(Boxed<Node>),
     Ensure(Boxed<Node>),
     Modifier(Modifier),
