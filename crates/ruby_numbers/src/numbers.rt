@@ -34,6 +34,15 @@ fn take(next: &mut u32) -> Mem<u32>
         None => Err(NoMemory),
     }
 }
+
+// An empty list with room for so many items.
+fn with_room<T>(alloc: Global, items: usize) -> Mem<Seq<T>>
+    ensures { IfOk result (λ list. list ≡ []) }
+{
+    let items = Vec::with_capacity(alloc, items)?;
+    Ok(Seq::from_vec(items))
+}
+
 // Where a part begins, if it is there.
 fn start_of(node: &Option<Boxed<Node>>) -> Option<u32>
     ensures { result ≡ spec.start_in (option_map spec.begun_in node.now) }
@@ -145,7 +154,7 @@ fn in_nodes(alloc: Global, nodes: Seq<Node>, next: &mut u32) -> Mem<Seq<Node>>
     ensures made { IfOk result (λ made. made ≡ (spec.nodes_row (map spec.begun_in nodes) next.old).0) }
     ensures next { OnOk result (next.new ≡ (spec.nodes_row (map spec.begun_in nodes) next.old).1) }
 {
-    let mut done = Seq::new(alloc);
+    let mut done = with_room(alloc, nodes.len())?;
     for node in nodes.into_vec() {
         done.push(numbered(alloc, node, next)?)?;
     }
@@ -157,7 +166,7 @@ fn in_items(alloc: Global, items: Seq<Item>, next: &mut u32) -> Mem<Seq<Item>>
     ensures made { IfOk result (λ made. made ≡ (spec.row (map spec.item_numbered items) next.old).0) }
     ensures next { OnOk result (next.new ≡ (spec.row (map spec.item_numbered items) next.old).1) }
 {
-    let mut done = Seq::new(alloc);
+    let mut done = with_room(alloc, items.len())?;
     for item in items.into_vec() {
         done.push(in_item(alloc, item, next)?)?;
     }
@@ -169,7 +178,7 @@ fn in_parts(alloc: Global, parts: Seq<Part>, next: &mut u32) -> Mem<Seq<Part>>
     ensures made { IfOk result (λ made. made ≡ (spec.row (map spec.part_numbered parts) next.old).0) }
     ensures next { OnOk result (next.new ≡ (spec.row (map spec.part_numbered parts) next.old).1) }
 {
-    let mut done = Seq::new(alloc);
+    let mut done = with_room(alloc, parts.len())?;
     for part in parts.into_vec() {
         done.push(in_part(alloc, part, next)?)?;
     }
@@ -181,7 +190,7 @@ fn in_params(alloc: Global, params: Seq<Param>, next: &mut u32) -> Mem<Seq<Param
     ensures made { IfOk result (λ made. made ≡ (spec.row (map spec.param_numbered params) next.old).0) }
     ensures next { OnOk result (next.new ≡ (spec.row (map spec.param_numbered params) next.old).1) }
 {
-    let mut done = Seq::new(alloc);
+    let mut done = with_room(alloc, params.len())?;
     for param in params.into_vec() {
         done.push(in_param(alloc, param, next)?)?;
     }
@@ -193,7 +202,7 @@ fn in_arms(alloc: Global, arms: Seq<Arm>, next: &mut u32) -> Mem<Seq<Arm>>
     ensures made { IfOk result (λ made. made ≡ (spec.row_by spec.arm_number (map spec.sides_in arms) next.old).0) }
     ensures next { OnOk result (next.new ≡ (spec.row_by spec.arm_number (map spec.sides_in arms) next.old).1) }
 {
-    let mut done = Seq::new(alloc);
+    let mut done = with_room(alloc, arms.len())?;
     for arm in arms.into_vec() {
         done.push(in_arm(alloc, arm, next)?)?;
     }
@@ -205,7 +214,7 @@ fn in_whens(alloc: Global, whens: Seq<When>, next: &mut u32) -> Mem<Seq<When>>
     ensures made { IfOk result (λ made. made ≡ (spec.row (map spec.when_numbered whens) next.old).0) }
     ensures next { OnOk result (next.new ≡ (spec.row (map spec.when_numbered whens) next.old).1) }
 {
-    let mut done = Seq::new(alloc);
+    let mut done = with_room(alloc, whens.len())?;
     for when in whens.into_vec() {
         done.push(in_when(alloc, when, next)?)?;
     }
@@ -217,7 +226,7 @@ fn in_rescues(alloc: Global, rescues: Seq<Rescue>, next: &mut u32) -> Mem<Seq<Re
     ensures made { IfOk result (λ made. made ≡ (spec.row (map spec.rescue_numbered rescues) next.old).0) }
     ensures next { OnOk result (next.new ≡ (spec.row (map spec.rescue_numbered rescues) next.old).1) }
 {
-    let mut done = Seq::new(alloc);
+    let mut done = with_room(alloc, rescues.len())?;
     for rescue in rescues.into_vec() {
         done.push(in_rescue(alloc, rescue, next)?)?;
     }

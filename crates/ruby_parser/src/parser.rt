@@ -3,6 +3,7 @@
 ghost use Rattle.std.specs.Prelude.{◌≡◌, ◌<◌, ◌^◌, length, IfOk};
 ghost use Rattle.ruby_exprs.specs.Derived.{derived};
 ghost use Rattle.ruby_lexer.specs.Answers.{Gives};
+ghost use Rattle.ruby_lowering.specs.Lowering as lowering;
 ghost use Rattle.ruby_parser.specs.Programs as spec;
 
 use crate::refused::refused_in;
@@ -32,19 +33,26 @@ fn program_of_tokens(alloc: Global, tokens: &[RubyToken]) -> Result<Program, Rub
     ensures { Gives result (spec.program_derived tokens.now (derived tokens.now)) }
 {
     let tree = derive(alloc, tokens)?;
-    program_of_tree(alloc, tokens, &tree)
+    program_of_tree(alloc, tokens, tree)
 }
 
 // The program that a concrete tree stands for, unless a node is refused.
-fn program_of_tree(alloc: Global, tokens: &[RubyToken], tree: &Tree) -> Result<Program, RubyAt>
-    ensures { Gives result (spec.program_of_tree tokens.now tree.now) }
+fn program_of_tree(alloc: Global, tokens: &[RubyToken], tree: Tree) -> Result<Program, RubyAt>
+    ensures { Gives result (spec.program_of_tree tokens.now tree) }
 {
-    let root = root_of(alloc, tokens, tree)?;
+    let root = root_in(alloc, tokens, tree)?;
     if let Some(refused) = refused_in(root.get()) {
         return Err(RubyAt::Unsupported(refused.at, refused.form));
     }
     let root = numbered_root(alloc, root.into_inner())?;
     Ok(Program { root })
+}
+
+// The node that a concrete tree stands for. The concrete tree goes before the nodes get their numbers.
+fn root_in(alloc: Global, tokens: &[RubyToken], tree: Tree) -> Mem<Boxed<Node>>
+    ensures { IfOk result (λ root. root ≡ lowering.root_of tokens.now tree) }
+{
+    root_of(alloc, tokens, &tree)
 }
 
 // A tree whose nodes have numbers from 0 on.
