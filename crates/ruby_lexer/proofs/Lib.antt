@@ -10,3 +10,4 @@ mod Stacks
 mod Suffices
 mod Values
 mod Worked
+pub mod Seconds

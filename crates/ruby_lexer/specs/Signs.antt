@@ -38,6 +38,16 @@ abbrev pub first_sign : List (List ℕ × Meaning) → List ℕ → Option Found
 first_sign [] text other = other
 first_sign (e ∷ es) text other = if has_front e.0 text then Some (record { meaning = e.1; len = length e.0 }) else first_sign es text other
 
+-- whether a byte stands second in some sign
+abbrev pub is_second : ℕ → Bool
+is_second b = b == 61 || (b == 46 || (b == 58 || (b == 62 || (b == 60 || (b == 124 || (b == 38 || (b == 42 || b == 126)))))))
+
+-- whether the second byte does so: else no sign has two characters or more here
+abbrev pub may_be_long : List ℕ → Bool
+may_be_long [] = false
+may_be_long (a ∷ []) = false
+may_be_long (a ∷ b ∷ more) = is_second b
+
 -- the longest sign
 unfoldable pub sign_here : List ℕ → Option Found
 sign_here text = first_sign long_signs text (first_sign double_signs text (first_sign single_signs text None))

@@ -129,11 +129,41 @@ pub fn sign_here(text: &[u8]) -> Option<Found>
     longest_sign(text)
 }
 
-#[tactic(auto, unfolding(crate::specs::Signs::sign_here))]
+// Whether a byte stands second in some sign.
+fn is_second(byte: u8) -> bool
+    ensures { result ≡ spec.is_second byte }
+{
+    byte == b'='
+        || byte == b'.'
+        || byte == b':'
+        || byte == b'>'
+        || byte == b'<'
+        || byte == b'|'
+        || byte == b'&'
+        || byte == b'*'
+        || byte == b'~'
+}
+
+// Whether the second byte does so.
+fn may_be_long(text: &[u8]) -> bool
+    ensures { result ≡ spec.may_be_long text.now }
+{
+    match text {
+        [_, second, ..] => is_second(*second),
+        _ => false,
+    }
+}
+
+// Most signs are of one character: the tables of longer ones are looked through where the second byte can be one of theirs.
+#[tactic(auto, unfolding(crate::specs::Signs::sign_here), using(crate::proofs::Seconds::single_here))]
 fn longest_sign(text: &[u8]) -> Option<Found>
     ensures { result ≡ spec.sign_here text.now }
 {
-    long_sign(text, double_sign(text, single_sign(text)))
+    if may_be_long(text) {
+        long_sign(text, double_sign(text, single_sign(text)))
+    } else {
+        single_sign(text)
+    }
 }
 
 fn has_prefix_form(sign: Sign) -> bool
